@@ -1,0 +1,3 @@
+-- The theorems over the definitions, file by file. Assumes nothing.
+pub mod Computing
+pub mod Worked

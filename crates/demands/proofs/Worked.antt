@@ -1,0 +1,63 @@
+-- The cases and worked examples of document 01, computed from the definitions. Assumes nothing.
+use Prim.Native.Nat.{ℕ}
+use mathlib.Core.Path.{_≡_, refl}
+use mathlib.Core.Option.{Option, none, some}
+use mathlib.Core.List.{List, [], _∷_, _++_, map}
+use lib.ListN.{replicate}
+use lib.IntN.{ℤ, pos}
+use Rattle.format.specs.Bytes.{bytes}
+use Rattle.format.specs.Table.{zeros, readAnswer, readResult}
+use Rattle.format.specs.Writing.{WriteResult, writeResult}
+use Rattle.format.specs.Walking.{Answer, answers, block, stray, piece, Found, Finished, NotWalked, walkAt, nameOf, checkOf}
+use Rattle.demands.specs.Cases.{Case, judged}
+use Rattle.demands.specs.Starred.{starred}
+use Rattle.demands.specs.Neighbours.{neighbours}
+use Rattle.demands.specs.Examples.{formicInput, formicWritten, formicTable, neon, exampleFile, Printed, printed, exampleLines}
+use Rattle.demands.proofs.Computing.{computing}
+
+pub starred-hold : map judged starred ≡ map (λ c. c .answer) starred
+unfolding computing judged starred
+starred-hold = refl
+
+pub neighbours-hold : map judged neighbours ≡ map (λ c. c .answer) neighbours
+unfolding computing judged neighbours
+neighbours-hold = refl
+
+-- formic acid is read to its table, and that table is written as document 01 has it; two bytes beyond stay
+pub formic-read : readResult 103 (bytes formicInput) (zeros 3856) ≡ readAnswer 0 0 formicTable
+unfolding computing formicTable
+formic-read = refl
+
+pub formic-written : writeResult 103 formicTable (bytes formicInput) (replicate 158 7) ≡ record { number = 0; count = 156; buffer = bytes formicWritten ++ (7 ∷ 7 ∷ []) }
+unfolding computing formicTable
+formic-written = refl
+
+-- the walk's example: its four lines, and single steps
+abbrev lines : Option (List Answer) → Option (List Printed)
+lines none = none
+lines (some l) = some (map printed l)
+
+pub example-walked : lines (answers 103 exampleFile) ≡ some exampleLines
+unfolding computing exampleFile
+example-walked = refl
+
+pub example-steps :
+    (walkAt exampleFile 0 ≡ Found (piece block 0 88))
+    × (walkAt exampleFile 88 ≡ Found (piece stray 88 93))
+    × (walkAt exampleFile 2 ≡ Found (piece stray 2 93))
+    × (walkAt exampleFile 192 ≡ Finished)
+    × (walkAt exampleFile 193 ≡ NotWalked 32)
+unfolding computing exampleFile
+example-steps = (refl, refl, refl, refl, refl)
+
+pub example-names :
+    (nameOf (bytes neon) [] ≡ bytes "a")
+    × (nameOf (bytes "##TITLE=\n") (bytes "x") ≡ bytes "x")
+    × (nameOf (bytes "##TITLE=\n foo \n bar\n##X") [] ≡ bytes "foo \n bar")
+    × (nameOf (bytes "##END=\n") (bytes "x") ≡ bytes "x")
+unfolding computing
+example-names = (refl, refl, refl, refl)
+
+pub example-checks : (checkOf 103 (bytes neon) ≡ 0) × (checkOf 103 [] ≡ 17179869184)
+unfolding computing
+example-checks = (refl, refl)

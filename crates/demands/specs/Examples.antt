@@ -1,0 +1,57 @@
+-- The worked examples of document 01: formic acid as it is read and as it is written, and the file of "Walking a transfer file". Assumes nothing.
+use Prim.Native.Nat.{ℕ, zero, suc, _+_}
+use Prim.Native.String.{String}
+use mathlib.Core.List.{List, [], _∷_, _++_}
+use lib.ListN.{getD}
+use lib.IntN.{ℤ, pos, natAbs}
+use Rattle.format.specs.Bytes.{Bytes, bytes}
+use Rattle.format.specs.Table.{zeros, ReadResult}
+use Rattle.format.specs.Walking.{Told, StrayRun, BlockRead, Answer}
+
+-- "This input:"
+abbrev pub formicInput : String
+formicInput = "##title= formic acid\n##JCAMP_CS= 3.7 $$ by hand\n##ORIGIN= bench 4\n##OWNER= public domain\n##MOLFORM= O/2 C H2\n##ATOMLIST=\n$$ AN AS NH\n1 C 1\n2 O\n3 O 1\n##BONDLIST=\n3 1 S\n1 2 D\n1 3 S\n##END=\n"
+
+-- "is written:"
+abbrev pub formicWritten : String
+formicWritten = "##TITLE= formic acid\n##JCAMP-CS= 3.7\n##ORIGIN= bench 4\n##OWNER= public domain\n##MOLFORM= C H2 O2\n##ATOMLIST=\n1 C 1\n2 O\n3 O 1\n##BONDLIST=\n1 2 D\n1 3 S\n##END=\n"
+
+-- its table, by "The structure table": 3 atoms and 2 bonds; where the texts stand; C with one hydrogen, O, O with one hydrogen; 1 2 D and 1 3 S
+unfoldable pub formicTable : List ℤ
+formicTable =
+    pos 3 ∷ pos 2 ∷ (zeros 5 ++ (pos 9 ∷ pos 11 ∷ pos 58 ∷ pos 7 ∷ pos 75 ∷ pos 13 ∷ pos 0 ∷ pos 0 ∷ pos 0
+    ∷ pos 6 ∷ pos 0 ∷ pos 1 ∷ pos 0 ∷ pos 0
+    ∷ pos 8 ∷ pos 0 ∷ pos 0 ∷ pos 0 ∷ pos 0
+    ∷ pos 8 ∷ pos 0 ∷ pos 1 ∷ pos 0 ∷ pos 0 ∷ (zeros 1265
+    ++ (pos 1 ∷ pos 2 ∷ pos 2 ∷ pos 1 ∷ pos 3 ∷ pos 1 ∷ zeros 2554))))
+
+-- "That block, the line `junk`, the block with `2 Ne` instead, and a lone `##TITLE= a` line"
+abbrev pub neon : String
+neon = "##TITLE= a\n##JCAMP-CS= 3.7\n##ORIGIN= b\n##OWNER= c\n##MOLFORM= Ne\n##ATOMLIST=\n1 Ne\n##END=\n"
+
+abbrev pub wrongNeon : String
+wrongNeon = "##TITLE= a\n##JCAMP-CS= 3.7\n##ORIGIN= b\n##OWNER= c\n##MOLFORM= Ne\n##ATOMLIST=\n2 Ne\n##END=\n"
+
+unfoldable pub exampleFile : Bytes
+exampleFile = bytes neon ++ (bytes "junk\n" ++ (bytes wrongNeon ++ bytes "##TITLE= a\n"))
+
+-- "It prints for a block `B start end number place atoms bonds`, the place counted in the file (0 if accepted), and for a stray run `S start end`."
+pub data Printed : Type 0 where
+  B : (start end number place atoms bonds : ℕ) → Printed
+  S : (start end : ℕ) → Printed
+
+abbrev pub placeInFile : (number from place : ℕ) → ℕ
+placeInFile zero from place = 0
+placeInFile (suc n) from place = from + place
+
+abbrev pub printedAs : (from to : ℕ) → Told → Printed
+printedAs from to StrayRun = S from to
+printedAs from to (BlockRead r) =
+    B from to (r .number) (placeInFile (r .number) from (r .place)) (natAbs (getD (r .table) 0 (pos 0))) (natAbs (getD (r .table) 1 (pos 0)))
+
+abbrev pub printed : Answer → Printed
+printed a = printedAs (a .of .from) (a .of .to) (a .told)
+
+-- "give:"
+abbrev pub exampleLines : List Printed
+exampleLines = B 0 88 0 0 1 0 ∷ S 88 93 ∷ B 93 181 11 169 0 0 ∷ B 181 192 16 192 0 0 ∷ []

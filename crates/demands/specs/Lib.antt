@@ -1,0 +1,5 @@
+-- The cases of document 01 that are proved over the definitions, file by file. Assumes nothing.
+pub mod Cases
+pub mod Starred
+pub mod Neighbours
+pub mod Examples

@@ -1,0 +1,1 @@
+-- The laws, file by file. Assumes nothing.
