@@ -1,3 +1,2 @@
 -- The theorems over the definitions, file by file. Assumes nothing.
-pub mod Computing
 pub mod Worked

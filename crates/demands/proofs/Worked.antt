@@ -13,7 +13,7 @@ use Rattle.demands.specs.Cases.{Case, judged}
 use Rattle.demands.specs.Starred.{starred}
 use Rattle.demands.specs.Neighbours.{neighbours}
 use Rattle.demands.specs.Examples.{formicInput, formicWritten, formicTable, neon, exampleFile, Printed, printed, exampleLines}
-use Rattle.demands.proofs.Computing.{computing}
+use Rattle.format.proofs.Computing.{computing}
 
 pub starred-hold : map judged starred ≡ map (λ c. c .answer) starred
 unfolding computing judged starred

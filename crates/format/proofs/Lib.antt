@@ -1,0 +1,4 @@
+-- The laws of the definitions, file by file. Assumes nothing.
+pub mod Computing
+pub mod Tables
+pub mod Places
