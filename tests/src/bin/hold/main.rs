@@ -1,0 +1,109 @@
+//! The definitions held against the independent reader.
+//!
+//! `hold COUNT SEED`, from the project's root, generates COUNT blocks, three tables to ten blocks and one transfer
+//! file to ten, and states the independent reader's answer to each as a theorem by computation over the
+//! definitions of `crates/format/specs`: for a block the number, the place and every number of the lent table; for a
+//! table the number, the count and every byte of the buffer; for a file its pieces, some single steps, a name and
+//! a check. `hold limits` states the named cases at and one over every limit instead. The theorems stand in a
+//! repository of their own under target/held, and the prover checks them there.
+
+mod terms;
+mod theorems;
+
+use std::collections::BTreeMap;
+use std::path::{Path, PathBuf};
+use std::process::{exit, Command};
+use std::time::Instant;
+use std::{env, fs};
+
+use theorems::{block_cases, file_cases, limit_cases, table_cases, Theorem};
+
+/// How many theorems stand in one file.
+const A_FILE: usize = 25;
+
+fn main() {
+    let words: Vec<String> = env::args().skip(1).collect();
+    let (theorems, named) = match words.iter().map(String::as_str).collect::<Vec<_>>()[..] {
+        ["limits"] => (limit_cases(), String::from("limits")),
+        [count, seed] => match (count.parse(), seed.parse()) {
+            (Ok(count), Ok(seed)) => (generated(count, seed), format!("{count} {seed}")),
+            _ => usage(),
+        },
+        _ => usage(),
+    };
+    let began = Instant::now();
+    let root = PathBuf::from("target/held");
+    laid_out(&root, &theorems).expect("target/held can be written");
+    let checked = Command::new("rt").args(["check", "held"]).current_dir(&root).output().expect("rt runs");
+    let said = String::from_utf8_lossy(&checked.stdout).into_owned() + &String::from_utf8_lossy(&checked.stderr);
+    let refused: Vec<&str> = said.lines().filter(|line| line.contains(": error: `case-")).collect();
+    refused.iter().take(20).for_each(|line| println!("{}", line.chars().take(400).collect::<String>()));
+    report(&theorems, &named, began.elapsed().as_secs());
+    if !checked.status.success() || said.contains("logic=not-proved") {
+        println!("{said}");
+        println!("the definitions and the independent reader DIFFER");
+        exit(1);
+    }
+    println!("hold: {} passed, 0 failed", theorems.len());
+}
+
+fn usage() -> ! {
+    eprintln!("usage, from the project's root: hold COUNT SEED | hold limits");
+    exit(2)
+}
+
+fn generated(count: usize, seed: u64) -> Vec<Theorem> {
+    let mut theorems = block_cases(count, seed);
+    theorems.extend(table_cases(count * 3 / 10, seed));
+    theorems.extend(file_cases(count / 10, seed));
+    theorems
+}
+
+/// How often each refusal number is among the answers.
+fn report(theorems: &[Theorem], named: &str, seconds: u64) {
+    let mut answers: BTreeMap<(&str, u32), usize> = BTreeMap::new();
+    for theorem in theorems {
+        for number in &theorem.numbers {
+            *answers.entry((theorem.of, *number)).or_default() += 1;
+        }
+    }
+    let mut subject = "";
+    for ((of, number), times) in &answers {
+        if *of != subject {
+            let all = theorems.iter().filter(|theorem| theorem.of == *of).count();
+            print!("{}{of} {all}:", if subject.is_empty() { "" } else { "\n" });
+            subject = of;
+        }
+        print!(" {number} x{times}");
+    }
+    println!("\nhold {named}: {} theorems checked in {seconds} s", theorems.len());
+}
+
+/// The repository of the theorems: the definitions as they are, without their laws, and the crate `held` over them.
+fn laid_out(root: &Path, theorems: &[Theorem]) -> std::io::Result<()> {
+    let _ = fs::remove_dir_all(root);
+    let crates = root.join("crates");
+    for name in ["lists", "format", "held"] {
+        fs::create_dir_all(crates.join(name).join("src"))?;
+        fs::create_dir_all(crates.join(name).join("proofs"))?;
+        fs::write(crates.join(name).join("src/lib.rt"), "// Definitions only.\n")?;
+    }
+    for name in ["lists", "format"] {
+        fs::create_dir_all(crates.join(name).join("specs"))?;
+        for file in fs::read_dir(Path::new("crates").join(name).join("specs"))? {
+            let file = file?;
+            fs::copy(file.path(), crates.join(name).join("specs").join(file.file_name()))?;
+        }
+    }
+    fs::write(crates.join("lists/proofs/Lib.antt"), "-- No laws here.\n")?;
+    fs::write(crates.join("format/proofs/Lib.antt"), "pub mod Computing\n")?;
+    fs::copy("crates/format/proofs/Computing.antt", crates.join("format/proofs/Computing.antt"))?;
+    fs::write(root.join("crates.txt"), "lists:\nformat: lists\nheld: lists format\n")?;
+    let proofs = crates.join("held/proofs");
+    let mut modules = String::new();
+    for (file, some) in theorems.chunks(A_FILE).enumerate() {
+        modules += &format!("pub mod Cases{file}\n");
+        fs::write(proofs.join(format!("Cases{file}.antt")), theorems::file(some, file * A_FILE))?;
+    }
+    fs::write(proofs.join("Lib.antt"), modules)
+}

@@ -1,0 +1,162 @@
+//! The independent reader's answers, stated as theorems over the definitions.
+
+use galebonnet_tests::generate::{self, Random};
+use galebonnet_tests::independent::{self, Walked};
+
+use crate::terms::{bytes, table};
+
+/// A theorem: what it is of, the refusal numbers in it, its statement and its proof.
+pub struct Theorem {
+    pub of: &'static str,
+    pub numbers: Vec<u32>,
+    statement: String,
+    open: &'static str,
+    proof: &'static str,
+}
+
+fn computed(of: &'static str, numbers: Vec<u32>, statement: String) -> Theorem {
+    Theorem { of, numbers, statement, open: "computing", proof: "refl" }
+}
+
+/// A file of theorems, numbered from one on.
+pub fn file(theorems: &[Theorem], from: usize) -> String {
+    let mut text = String::from(HEAD);
+    for (index, theorem) in theorems.iter().enumerate() {
+        let name = format!("case-{}", from + index);
+        let Theorem { statement, open, proof, .. } = theorem;
+        text += &format!("\n{name} : {statement}\nunfolding {open}\n{name} = {proof}\n");
+    }
+    text
+}
+
+const HEAD: &str = "-- Generated: the independent reader's answers, over the definitions.
+use Prim.Native.Nat.{ℕ}
+use mathlib.Core.Path.{_≡_, refl}
+use mathlib.Core.List.{List, [], _∷_}
+use lib.ListN.{length, replicate, length-replicate}
+use lib.IntN.{ℤ, pos, negsuc}
+use Rattle.lists.specs.Lists.{concat}
+use Rattle.format.specs.Bytes.{Bytes, bytes}
+use Rattle.format.specs.Table.{readResult, readAnswer}
+use Rattle.format.specs.Writing.{writeResult}
+use Rattle.format.specs.Walking.{block, stray, piece, Found, Finished, NotWalked, pieces, walkAt, nameOf, checkOf}
+use Rattle.format.proofs.Computing.{computing}
+
+-- many of one byte: shut, so that nothing counts them one by one
+unfoldable repeated : ℕ → ℕ → Bytes
+repeated n b = replicate n b
+
+repeated-length : (n b : ℕ) → length (repeated n b) ≡ n
+unfolding repeated
+repeated-length n b = length-replicate n b
+";
+
+/// What a lent table holds before: sevens, so that what is zeroed and what is untouched can be told apart.
+const LENT: i32 = 7;
+
+fn block_case(block: &[u8], lent: usize) -> Theorem {
+    let mut numbers = vec![LENT; lent];
+    let answer = independent::read(block, &mut numbers);
+    let statement = format!(
+        "readResult 103 {} (replicate {lent} (pos {LENT})) ≡ readAnswer {} {} {}",
+        bytes(block),
+        answer.number,
+        answer.place,
+        table(&numbers)
+    );
+    computed("blocks", vec![answer.number], statement)
+}
+
+/// Generated blocks, a few of them into a short or a longer table, a few over the longest length.
+pub fn block_cases(count: usize, seed: u64) -> Vec<Theorem> {
+    let mut random = Random::new(seed);
+    let mut cases = Vec::new();
+    for index in 0..count {
+        let mut block = generate::block(&mut random);
+        let lent = match index % 20 {
+            0 => 3855,
+            1 => 3858,
+            _ => 3856,
+        };
+        if index % 40 == 3 {
+            block.resize(32_769 + index, b' ');
+        }
+        cases.push(block_case(&block, lent));
+    }
+    cases
+}
+
+/// The named blocks, at and one over every limit.
+pub fn limit_cases() -> Vec<Theorem> {
+    generate::limit_blocks().iter().map(|(_, block)| block_case(block, 3856)).collect()
+}
+
+/// Generated tables with their texts and buffers.
+pub fn table_cases(count: usize, seed: u64) -> Vec<Theorem> {
+    let mut random = Random::new(seed ^ 0x7461_626c_6573);
+    let mut cases = Vec::new();
+    for _ in 0..count {
+        let case = generate::table_case(&mut random);
+        let mut buffer = vec![LENT as u8; case.room];
+        let written = independent::write(&case.table, &case.texts, &mut buffer);
+        let statement = format!(
+            "writeResult 103 {} {} (replicate {} {LENT}) ≡ record {{ number = {}; count = {}; buffer = {} }}",
+            table(&case.table),
+            bytes(&case.texts),
+            case.room,
+            written.number,
+            written.count,
+            bytes(&buffer)
+        );
+        cases.push(computed("tables", vec![written.number], statement));
+    }
+    cases
+}
+
+fn walked(answer: &Walked) -> String {
+    match answer {
+        Walked::Block { start, end } => format!("Found (piece block {start} {end})"),
+        Walked::Stray { start, end } => format!("Found (piece stray {start} {end})"),
+        Walked::Finished => String::from("Finished"),
+        Walked::Refused(number) => format!("NotWalked {number}"),
+    }
+}
+
+fn piece(answer: &Walked) -> String {
+    walked(answer).trim_start_matches("Found ").to_string()
+}
+
+/// Generated transfer files: all pieces, steps from some places, a name and a check; and files over the longest length.
+pub fn file_cases(count: usize, seed: u64) -> Vec<Theorem> {
+    let mut random = Random::new(seed ^ 0x0066_696c_6573);
+    let mut cases = Vec::new();
+    for _ in 0..count {
+        let file = generate::file(&mut random);
+        let pieces: Vec<String> = independent::pieces(&file).iter().map(piece).collect();
+        let all = if pieces.is_empty() { String::from("[]") } else { format!("({} ∷ [])", pieces.join(" ∷ ")) };
+        let mut statement = format!("(pieces {} ≡ {all})", bytes(&file));
+        let mut numbers = Vec::new();
+        for place in [0, random.below(file.len() + 1), file.len(), file.len() + 1 + random.below(3)] {
+            let answer = independent::walk(&file, place);
+            numbers.push(if let Walked::Refused(number) = answer { number } else { 0 });
+            statement += &format!(" × (walkAt {} {place} ≡ {})", bytes(&file), walked(&answer));
+        }
+        let block = generate::block(&mut random);
+        let name = independent::name(&block, b"stand-in");
+        statement += &format!(" × (nameOf {} (bytes \"stand-in\") ≡ {})", bytes(&block), bytes(name));
+        statement += &format!(" × (checkOf 103 {} ≡ {})", bytes(&block), independent::check(&block));
+        let mut case = computed("files", numbers, statement);
+        case.proof = "(refl, refl, refl, refl, refl, refl, refl)";
+        cases.push(case);
+    }
+    cases.extend([0, 1, 16_777_300].map(too_long));
+    cases
+}
+
+fn too_long(place: usize) -> Theorem {
+    let length = 16_777_217;
+    let answer = independent::walk(&vec![b'#'; length], place);
+    assert_eq!(answer, Walked::Refused(31));
+    let statement = format!("walkAt (repeated {length} 35) {place} ≡ {}", walked(&answer));
+    Theorem { of: "files", numbers: vec![31], statement, open: "walkAt", proof: "rw (repeated-length 16777217 35)" }
+}

@@ -1,0 +1,42 @@
+//! The generator: blocks, tables and transfer files from a seed.
+
+pub mod blocks;
+pub mod crowded;
+pub mod damage;
+mod damage_rows;
+pub mod files;
+pub mod limits;
+pub mod neighbours;
+pub mod neon;
+pub mod random;
+pub mod spelling;
+pub mod structures;
+pub mod tables;
+
+pub use blocks::sound_block;
+pub use damage::damaged;
+pub use files::file;
+pub use limits::limit_blocks;
+pub use random::Random;
+pub use tables::{table_case, TableCase};
+
+/// A block of any kind, sound or damaged, mostly small; every refusal from 3 to 17 comes often.
+pub fn block(random: &mut Random) -> Vec<u8> {
+    match random.below(100) {
+        0..=29 => sound_block(random),
+        30..=35 => {
+            let neon = neon::NEON.as_bytes();
+            damaged(random, neon)
+        }
+        36..=38 => crowded::crowded_block(random),
+        39..=89 => {
+            let block = sound_block(random);
+            damaged(random, &block)
+        }
+        _ => {
+            let block = sound_block(random);
+            let once = damaged(random, &block);
+            damaged(random, &once)
+        }
+    }
+}

@@ -1,0 +1,208 @@
+//! How sound blocks are spelt: labels in any case with ` -/_` in them, blanks, comments, leading
+//! zeros, texts over several lines, skipped records, formulas in every allowed shape.
+
+use super::random::Random;
+use crate::independent::elements::SYMBOLS;
+use crate::independent::formula::listed;
+use crate::independent::table::Atom;
+
+/// A block in the making. Each block has its own line end and its own share of noise.
+pub struct Spelling<'a> {
+    pub random: &'a mut Random,
+    bytes: Vec<u8>,
+    line_end: &'static str,
+    noise: usize,
+}
+
+const SKIPPED: [&str; 10] =
+    ["DATE", "TIME", "STEREOMOLECULE", "MAX_RASTER", "XY_RASTER", "XYZ", "JCAMP-DX", "ENDE", "", "#END"];
+const WORDS: [&str; 14] =
+    ["a", "acid", "of", "3.7", "$$", "$", "=", "##", "#", "x=y", "1 Ne", "END", "~", "bench-4"];
+
+impl<'a> Spelling<'a> {
+    pub fn new(random: &'a mut Random) -> Self {
+        let line_end = if random.chance(12) { "\r\n" } else { "\n" };
+        let noise = [0, 4, 12][random.below(3)];
+        Spelling { random, bytes: Vec::new(), line_end, noise }
+    }
+
+    /// The block; sometimes its last line feed is missing.
+    pub fn finished(mut self) -> Vec<u8> {
+        if self.random.chance(5) {
+            self.bytes.pop();
+        }
+        self.bytes
+    }
+
+    fn noisy(&mut self) -> bool {
+        self.random.chance(self.noise)
+    }
+
+    /// `##`, the label in some spelling, `=`.
+    pub fn label(&mut self, name: &str) {
+        self.bytes.extend(b"##");
+        for letter in name.bytes() {
+            while self.noisy() {
+                self.bytes.push(self.random.byte(b" -/_"));
+            }
+            let is_dropped = b" -/_".contains(&letter);
+            if !(is_dropped && self.noisy()) {
+                let small = self.noisy();
+                self.bytes.push(if small { letter.to_ascii_lowercase() } else { letter });
+            }
+        }
+        self.bytes.push(b'=');
+    }
+
+    /// No or some blanks.
+    fn blanks(&mut self) {
+        while self.noisy() {
+            self.bytes.push(self.random.byte(b" \t\r "));
+        }
+    }
+
+    /// The rest of a line: blanks, perhaps a comment, the line end.
+    pub fn end_line(&mut self) {
+        self.blanks();
+        if self.noisy() {
+            self.bytes.extend(self.random.pick(&["$$", "$$ note", "$$$ 1 Ne", "$$=##END= x"]).bytes());
+        }
+        self.bytes.extend(self.line_end.bytes());
+    }
+
+    pub fn blank_line(&mut self) {
+        self.blanks();
+        self.bytes.extend(self.line_end.bytes());
+    }
+
+    /// A value after its label's `=`, the line's end, perhaps blank and comment lines.
+    pub fn value(&mut self, value: &str) {
+        if !self.noisy() {
+            self.bytes.push(b' ');
+        }
+        self.blanks();
+        self.bytes.extend(value.bytes());
+        self.end_line();
+        while self.noisy() {
+            self.end_line();
+        }
+    }
+
+    /// A number with leading zeros now and then, six digits at most.
+    pub fn number(&mut self, number: i32) -> String {
+        let width = if self.noisy() { self.random.below(7) } else { 0 };
+        format!("{number:0width$}")
+    }
+
+    /// A symbol, hydrogen 2 and 3 in both spellings.
+    pub fn symbol(&mut self, element: i32, mass: i32) -> String {
+        match (element, mass) {
+            (1, 2) if self.random.chance(70) => "D".to_string(),
+            (1, 3) if self.random.chance(70) => "T".to_string(),
+            (_, 0) => SYMBOLS[element as usize - 1].to_string(),
+            _ => {
+                let width = if self.noisy() { self.random.below(4) } else { 0 };
+                format!("^{mass:0width$}{}", SYMBOLS[element as usize - 1])
+            }
+        }
+    }
+
+    /// A list: its label, then its rows, the first one now and then on the label line.
+    pub fn list(&mut self, name: &str, rows: Vec<Vec<String>>) {
+        self.label(name);
+        let on_label_line = self.noisy();
+        if !on_label_line || rows.is_empty() {
+            self.end_line();
+        }
+        for row in rows {
+            while self.noisy() {
+                self.end_line();
+            }
+            self.blanks();
+            for (index, field) in row.iter().enumerate() {
+                if index > 0 {
+                    self.bytes.push(self.random.byte(b"      \t\r"));
+                    self.blanks();
+                }
+                self.bytes.extend(field.bytes());
+            }
+            self.end_line();
+        }
+    }
+
+    /// A text record of no, one or several lines, none of them starting with `##`.
+    pub fn text_record(&mut self, name: &str) {
+        self.label(name);
+        if !self.random.chance(8) {
+            let mut text = String::from(if self.noisy() { "" } else { " " });
+            for _ in 0..self.random.below(4) {
+                text.push_str(self.random.pick(&WORDS));
+                let parting = if self.noisy() { self.line_end } else { " " };
+                text.push_str(parting);
+            }
+            self.bytes.extend(text.replace("\n##", "\n ##").trim_end_matches(' ').bytes());
+        }
+        self.bytes.extend(self.line_end.bytes());
+        while self.noisy() {
+            self.blank_line();
+        }
+    }
+
+    /// Now and then a record with an unknown label and lines that are not looked into.
+    pub fn skipped_records(&mut self) {
+        while self.random.chance(self.noise / 3 + 1) {
+            let name = self.random.pick(&SKIPPED);
+            self.label(name);
+            for _ in 0..self.random.below(3) {
+                self.bytes.extend(self.random.pick(&WORDS).replace("##", " ##").bytes());
+                self.bytes.extend(self.line_end.bytes());
+            }
+            self.bytes.extend(self.line_end.bytes());
+        }
+    }
+
+    /// A formula with the atoms' totals: entries split, in any order, in one or more fragments.
+    pub fn formula(&mut self, atoms: &[Atom]) -> String {
+        let mut entries = Vec::new();
+        for ((element, mass), total) in listed(atoms) {
+            let mut rest = total as i32;
+            while rest > 1 && self.noisy() {
+                let part = self.random.between(1, rest - 1);
+                entries.push(self.entry(element, mass, part));
+                rest -= part;
+            }
+            entries.push(self.entry(element, mass, rest));
+        }
+        self.random.shuffle(&mut entries);
+        let mut formula = entries.remove(0);
+        for entry in entries {
+            let parting = self.parting(&formula, &entry);
+            formula.push_str(parting);
+            formula.push_str(&entry);
+        }
+        formula
+    }
+
+    fn entry(&mut self, element: i32, mass: i32, count: i32) -> String {
+        let symbol = self.symbol(element, mass);
+        let slash = if self.random.chance(15) { "/" } else { "" };
+        if count == 1 && !self.noisy() {
+            return symbol;
+        }
+        format!("{symbol}{slash}{}", self.number(count))
+    }
+
+    /// What may stand between a formula so far and its next entry.
+    fn parting(&mut self, formula: &str, entry: &str) -> &'static str {
+        let before: Vec<u8> = formula.bytes().rev().take(1).collect();
+        let needs_blank = before[0].is_ascii_uppercase() || entry.starts_with('^');
+        match self.random.below(12) {
+            0 => "*",
+            1 => " * ",
+            2 => "\t",
+            3 => "  ",
+            4..=6 if !needs_blank => "",
+            _ => " ",
+        }
+    }
+}

@@ -1,0 +1,16 @@
+//! The independent reader: document 01 read line by line, every broken rule of a line collected,
+//! the least of them answered. Nothing here is shared with the definitions or the proved code.
+
+pub mod elements;
+pub mod formula;
+pub mod lines;
+pub mod lists;
+pub mod reading;
+pub mod rows;
+pub mod table;
+pub mod walking;
+pub mod writing;
+
+pub use reading::{check, read, Answer};
+pub use walking::{name, pieces, walk, walk_lines, Walked};
+pub use writing::{write, Written};

@@ -1,0 +1,78 @@
+//! The generator is deterministic, its sound blocks are accepted, and every answer comes often.
+
+use galebonnet_tests::generate::{self, Random};
+use galebonnet_tests::independent::{check, read, write};
+use std::collections::BTreeMap;
+
+#[test]
+fn every_refusal_comes_often() {
+    let mut random = Random::new(1);
+    let mut counts: BTreeMap<u64, usize> = BTreeMap::new();
+    let mut small = 0;
+    for _ in 0..20_000 {
+        let block = generate::block(&mut random);
+        *counts.entry(check(&block) >> 32).or_default() += 1;
+        small += usize::from(block.len() <= 1500);
+    }
+    println!("refusals: {counts:?}, small blocks: {small}");
+    for number in [0].into_iter().chain(3..=17) {
+        let count = counts.get(&number).copied().unwrap_or(0);
+        assert!(count >= 200, "refusal {number} came only {count} times: {counts:?}");
+    }
+    assert!(small >= 19_000, "only {small} small blocks");
+}
+
+#[test]
+fn sound_blocks_are_accepted() {
+    let mut random = Random::new(2);
+    let mut lengths = Vec::new();
+    for _ in 0..20_000 {
+        let block = generate::sound_block(&mut random);
+        assert_eq!(check(&block), 0, "refused: {}", block.escape_ascii());
+        lengths.push(block.len());
+    }
+    lengths.sort();
+    assert!(lengths[19_000] <= 1500, "a twentieth of the sound blocks is over 1,500 bytes");
+}
+
+#[test]
+fn every_answer_of_the_writer_comes_often() {
+    let mut random = Random::new(3);
+    let mut counts: BTreeMap<u32, usize> = BTreeMap::new();
+    for _ in 0..3_000 {
+        let case = generate::table_case(&mut random);
+        let written = write(&case.table, &case.texts, &mut vec![0; case.room]);
+        *counts.entry(written.number).or_default() += 1;
+    }
+    println!("writer's answers: {counts:?}");
+    assert_eq!(counts.keys().copied().collect::<Vec<u32>>(), [0, 1, 21, 22, 23]);
+    assert!(counts.values().all(|&count| count >= 150), "{counts:?}");
+}
+
+#[test]
+fn the_same_seed_gives_the_same_inputs() {
+    let inputs = |seed: u64| {
+        let mut random = Random::new(seed);
+        let blocks: Vec<Vec<u8>> = (0..200).map(|_| generate::block(&mut random)).collect();
+        let tables: Vec<_> = (0..50).map(|_| generate::table_case(&mut random)).collect();
+        let files: Vec<Vec<u8>> = (0..50).map(|_| generate::file(&mut random)).collect();
+        (blocks, tables, files)
+    };
+    assert!(inputs(7) == inputs(7), "the same seed gave other inputs");
+    assert!(inputs(7) != inputs(8), "another seed gave the same inputs");
+}
+
+#[test]
+fn a_table_keeps_what_is_not_its_own() {
+    let mut random = Random::new(4);
+    for _ in 0..500 {
+        let block = generate::block(&mut random);
+        let mut table = vec![5; 3860];
+        let answer = read(&block, &mut table);
+        assert_eq!(table[3856..], [5; 4]);
+        assert!(answer.number == 0 || table[..3856].iter().all(|&number| number == 0));
+        let mut short = vec![5; 3855];
+        assert_eq!(read(&block, &mut short).number, 1);
+        assert!(short.iter().all(|&number| number == 5));
+    }
+}

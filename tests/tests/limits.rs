@@ -1,0 +1,80 @@
+//! The named cases: each name once, every refusal of the reader among them, limits as named.
+
+use galebonnet_tests::generate::limit_blocks;
+use galebonnet_tests::independent::check;
+use std::collections::{BTreeMap, BTreeSet};
+
+/// Cases at a limit and one over it, each with its refusal number.
+const EXPECTED: [(&str, u64); 47] = [
+    ("256 atoms", 0),
+    ("257 atoms", 14),
+    ("512 bonds", 0),
+    ("513 bonds", 14),
+    ("bond `1 2 S` after 512 bonds", 0),
+    ("bond `1 2 D` after 512 bonds", 13),
+    ("64 charge rows, then ``", 0),
+    ("65 charge rows, then ``", 14),
+    ("63 charge rows, then `+1`", 0),
+    ("64 charge rows, then `+1`", 14),
+    ("`1`, then 63 radical rows", 0),
+    ("`1`, then 64 radical rows", 14),
+    ("128 centres", 0),
+    ("129 centres", 14),
+    ("128 pairs", 0),
+    ("129 pairs", 14),
+    ("32768 bytes by the title", 0),
+    ("32769 bytes by the title", 2),
+    ("32769 bytes by blanks after END", 2),
+    ("32768 bytes of 0", 3),
+    ("charge 99", 0),
+    ("charge 100", 10),
+    ("charge 0", 10),
+    ("charge -99", 0),
+    ("charge -100", 10),
+    ("radical 15", 0),
+    ("radical 16", 10),
+    ("radical 0", 10),
+    ("hydrogens 15", 0),
+    ("hydrogens 16", 10),
+    ("mass 1 in both", 0),
+    ("mass 300 in both", 0),
+    ("mass 301 in both", 10),
+    ("mass 0 in both", 10),
+    ("mass 301 in a row", 10),
+    ("count 9999", 15),
+    ("count 10000", 10),
+    ("count 0", 10),
+    ("block id 1", 0),
+    ("block id 999999", 0),
+    ("block id 0", 10),
+    ("block id 1000000", 9),
+    ("charge 000099", 0),
+    ("charge 0000099", 9),
+    ("group z", 0),
+    ("group 00", 9),
+    ("one charge over 256 atoms", 0),
+];
+
+/// The refusal numbers by the cases' names.
+fn numbers() -> BTreeMap<String, u64> {
+    limit_blocks().into_iter().map(|(name, block)| (name, check(&block) >> 32)).collect()
+}
+
+#[test]
+fn every_name_stands_once_and_every_refusal_occurs() {
+    let cases = limit_blocks();
+    let names: BTreeSet<&String> = cases.iter().map(|(name, _)| name).collect();
+    assert_eq!(names.len(), cases.len());
+    assert!(cases.len() >= 400, "only {} cases", cases.len());
+    let seen: BTreeSet<u64> = numbers().into_values().collect();
+    let all: BTreeSet<u64> = [0].into_iter().chain(2..=17).collect();
+    assert_eq!(seen, all);
+}
+
+#[test]
+fn each_limit_passes_and_one_more_is_refused() {
+    let numbers = numbers();
+    for (name, number) in EXPECTED {
+        assert_eq!(numbers.get(name), Some(&number), "{name}");
+    }
+}
