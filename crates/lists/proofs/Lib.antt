@@ -4,3 +4,4 @@ pub mod ListLaws
 pub mod PairLaws
 pub mod PartLaws
 pub mod SortLaws
+pub mod LexLaws
