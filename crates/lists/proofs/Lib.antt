@@ -1,1 +1,7 @@
 -- The laws, file by file. Assumes nothing.
+pub mod Bools
+pub mod ListLaws
+pub mod PairLaws
+pub mod PartLaws
+pub mod SortLaws
+pub mod LexLaws
