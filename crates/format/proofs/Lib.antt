@@ -1,2 +1,4 @@
 -- The laws of the definitions, file by file. Assumes nothing.
 pub mod CutLaws
+pub mod ReadingLaws
+pub mod EndLaws
