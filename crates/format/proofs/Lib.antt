@@ -2,3 +2,4 @@
 pub mod CutLaws
 pub mod ReadingLaws
 pub mod EndLaws
+pub mod ByteLaws
