@@ -3,3 +3,4 @@ pub mod CutLaws
 pub mod ReadingLaws
 pub mod EndLaws
 pub mod ByteLaws
+pub mod FieldLaws
