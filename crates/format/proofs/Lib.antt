@@ -4,3 +4,4 @@ pub mod ReadingLaws
 pub mod EndLaws
 pub mod ByteLaws
 pub mod FieldLaws
+pub mod TextLaws
