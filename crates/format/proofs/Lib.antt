@@ -2,3 +2,9 @@
 pub mod Computing
 pub mod Tables
 pub mod Places
+pub mod CutLaws
+pub mod ReadingLaws
+pub mod EndLaws
+pub mod ByteLaws
+pub mod FieldLaws
+pub mod TextLaws
