@@ -1,1 +1,2 @@
 -- The laws, file by file. Assumes nothing.
+pub mod Bools
