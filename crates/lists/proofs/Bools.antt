@@ -100,6 +100,12 @@ or-shuffle false true true d = refl
 or-shuffle false true false d = refl
 or-shuffle false false c d = refl
 
+pub and-shuffle : (a b c d : Bool) → ((a && b) && (c && d)) ≡ ((a && c) && (b && d))
+and-shuffle true true c d = refl
+and-shuffle true false true d = refl
+and-shuffle true false false d = refl
+and-shuffle false b c d = refl
+
 -- NUMBERS
 pub eqb-same : (a : ℕ) → eqb a a ≡ true
 eqb-same a = eq-eqb a a refl

@@ -1,2 +1,3 @@
 -- The laws, file by file. Assumes nothing.
 pub mod Bools
+pub mod ListLaws
