@@ -1,6 +1,6 @@
 -- Bools and tests on numbers, as the other laws cite them: a conjunction that is true and a disjunction that is false come apart, a test has one value, equality
 -- of numbers is symmetric. What mathlib.Core.Bool, lib.Dec and borrow.Author.Tests have is cited from there. Serves every law file. Assumes nothing.
-use Prim.Native.Nat.{ℕ, _≤_}
+use Prim.Native.Nat.{ℕ}
 use mathlib.Core.Path.{_≡_, refl, sym, ap, _∙_}
 use mathlib.Core.Bool.{Bool, true, false, not, _&&_, _||_, true≢false}
 use native.Mathlib.Omega.{arith}

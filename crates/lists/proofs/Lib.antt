@@ -1,3 +1,4 @@
 -- The laws, file by file. Assumes nothing.
 pub mod Bools
 pub mod ListLaws
+pub mod PairLaws

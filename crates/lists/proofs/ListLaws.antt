@@ -1,6 +1,6 @@
 -- Tests on lists (all, any, span), clause by clause, so that no later proof opens one; then for lists put together and, for loops, at an index: a list passes a
 -- test if each member does, and a run in front ends at the first that does not. Serves every law file. Assumes nothing.
-use Prim.Native.Nat.{ℕ, zero, suc, _+_, _-_, _≤_, _<_}
+use Prim.Native.Nat.{ℕ, zero, suc, _+_, _≤_, _<_}
 use mathlib.Core.Path.{_≡_, refl, sym, ap, _∙_}
 use mathlib.Core.Bool.{Bool, true, false, not, _&&_, _||_, and-assoc, and-true, or-assoc, or-false}
 use mathlib.Core.List.{List, [], _∷_, _++_, append-nil}
