@@ -3,3 +3,4 @@ pub mod Bools
 pub mod ListLaws
 pub mod PairLaws
 pub mod PartLaws
+pub mod SortLaws
