@@ -2,3 +2,4 @@
 pub mod Computing
 pub mod Tables
 pub mod Places
+pub mod CutLaws
