@@ -3,3 +3,5 @@ pub mod Computing
 pub mod Tables
 pub mod Places
 pub mod CutLaws
+pub mod ReadingLaws
+pub mod EndLaws
