@@ -5,3 +5,4 @@ pub mod Places
 pub mod CutLaws
 pub mod ReadingLaws
 pub mod EndLaws
+pub mod WalkLaws
