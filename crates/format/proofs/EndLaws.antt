@@ -8,11 +8,11 @@ use native.Mathlib.Omega.{arith}
 use lib.ListN.{length, drop}
 use lib.Dec.{eqb, ltb}
 use Rattle.lists.specs.Lists.{all, any}
-use Rattle.format.specs.Bytes.{Bytes, same, bytes, cut, isLabel}
-use Rattle.format.specs.Labels.{Skipped, Label, label, known, lookup, normal, Parts, NoEquals, Parted, parts, partsLine, Line, Plain, Unparted, Labelled, lineOf, hasCode, endLine}
+use Rattle.format.specs.Bytes.{Bytes, same, cut, isLabel}
+use Rattle.format.specs.Labels.{Skipped, Label, label, known, lookup, normal, Parts, NoEquals, Parted, parts, partsLine, Line, Plain, Unparted, Labelled, lineOf, endLine}
 use Rattle.format.specs.Structure.{Structure}
-use Rattle.format.specs.Reading.{Rules, State, Go, over, past, opened, lineStep, Outcome, Accepted, Refused, readLines, start, Span, Reading, Read, Unread, readingOf, readBlock}
-use Rattle.format.proofs.ReadingLaws.{Same, Went, further, started, step-went, Goes, AcceptedBy, accepted-by}
+use Rattle.format.specs.Reading.{Rules, State, over, past, Outcome, Accepted, Refused, readLines, start, Span, Read, Unread, readingOf, readBlock}
+use Rattle.format.proofs.ReadingLaws.{Went, further, started, step-went, Goes, AcceptedBy, accepted-by}
 
 -- a test that each of some labels and the label of the skipped passes is passed by what is looked up among them
 module _ (p : Label → Bool) (n : Bytes) (none : p (label "" Skipped 0 0 10) ≡ true) where

@@ -8,3 +8,4 @@ pub mod EndLaws
 pub mod ByteLaws
 pub mod FieldLaws
 pub mod TextLaws
+pub mod WalkLaws

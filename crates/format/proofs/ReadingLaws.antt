@@ -1,6 +1,6 @@
 -- The laws of reading line by line: document 01, "The earliest line that breaks a rule decides, and on it the lowest number". First the clauses of a line's
 -- step and of the reading, then what a reading keeps, where it stops, and that what is accepted has an END line. Assumes nothing.
-use Prim.Native.Nat.{ℕ, zero, suc, _+_, _-_}
+use Prim.Native.Nat.{ℕ, suc, _+_, _-_}
 use mathlib.Core.Path.{_≡_, refl, sym, ap, _∙_, subst}
 use mathlib.Core.Bool.{Bool, true, false, not, _&&_, _||_}
 use mathlib.Core.Logic.{_⊎_, inl, inr}
@@ -9,14 +9,14 @@ use mathlib.Core.List.{List, [], _∷_, _++_}
 use native.Mathlib.Nat.{add-zero, add-assoc}
 use native.Mathlib.Omega.{arith}
 use lib.ListN.{length, length-append, drop}
-use lib.Dec.{eqb, ltb, leb}
+use lib.Dec.{eqb, leb}
 use Rattle.lists.specs.Lists.{isNil, all, any, pairs, concat}
-use Rattle.format.specs.Bytes.{Bytes, within, same, bytes, allowed, gap, cut, strip, fields, isLabel}
-use Rattle.format.specs.Labels.{ListOf, Parts, NoEquals, Parted, parts, partsLine, Holds, Text, Version, Formula, BlockId, Atoms, Rows, End, Skipped, Label, label, known, lookup, normal, misplaced, Line, Plain, Unparted, Labelled, lineOf, hasCode, titleLine, endLine}
+use Rattle.format.specs.Bytes.{Bytes, within, same, bytes, allowed, gap, strip, fields}
+use Rattle.format.specs.Labels.{ListOf, Holds, Text, Version, Formula, BlockId, Atoms, Rows, End, Skipped, Label, misplaced, Line, Plain, Unparted, Labelled, lineOf, titleLine}
 use Rattle.format.specs.Rows.{Row, AtomRow, number, field, atomShape, rowShape}
 use Rattle.format.specs.Formula.{Counted, formulaShape}
 use Rattle.format.specs.Structure.{unknown, massOk, rowsOf, most, ranged, meets, clash, entriesOf, agree}
-use Rattle.format.specs.Reading.{Rules, State, Turn, Go, Stop, if_stop_else_, past, atomCount, lacks, ordered, atomTurn, joined, joinTurn, rowTurn, formulaTurn, versionTurn, idValue, idTurn, unlessBlank, atomLine, rowLine, endTurn, valueTurn, blankOr, furtherTurn, over, noted, opened, lineTurn, lineStep, Outcome, Accepted, Refused, ending, readLines, start, Reading, Read, Unread, readingOf, readBlock}
+use Rattle.format.specs.Reading.{Rules, State, Turn, Go, Stop, if_stop_else_, past, atomCount, lacks, ordered, atomTurn, joined, joinTurn, rowTurn, formulaTurn, versionTurn, idValue, idTurn, unlessBlank, atomLine, rowLine, endTurn, valueTurn, blankOr, furtherTurn, over, opened, lineTurn, lineStep, Accepted, Refused, ending, readLines}
 use Rattle.format.proofs.CutLaws.{concat-cons}
 
 -- A LINE'S STEP
