@@ -1,0 +1,2 @@
+-- The laws of the reader, file by file. Assumes nothing.
+pub mod StepLaws
