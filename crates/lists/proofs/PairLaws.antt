@@ -10,7 +10,7 @@ use lib.Seq.{drop-cons}
 use lib.Dec.{eqb}
 use borrow.Author.Tests.{eqb-true}
 use Rattle.lists.specs.Lists.{all, any, sameBy, pairs}
-use Rattle.lists.proofs.Bools.{torn, never, and-parts, or-parts, or-neither, eqb-same, eqb-symm}
+use Rattle.lists.proofs.Bools.{torn, never, and-parts, or-parts, or-neither, or-shuffle, eqb-same, eqb-symm}
 use Rattle.lists.proofs.ListLaws.{all-parts, any-nil, any-cons, any-parts, any-neither, any-append, any-same, any-or}
 
 module _ {A : Type 0} where
@@ -90,6 +90,11 @@ module _ {A : Type 0} where
   unfolding pairs
   pairs-same r q f [] = refl
   pairs-same r q f (x ∷ xs) = rw (any-same (r x) (q x) (f x) xs, pairs-same r q f xs)
+
+  pub pairs-or : (r q : A → A → Bool) (xs : List A) → pairs (λ x y. r x y || q x y) xs ≡ (pairs r xs || pairs q xs)
+  unfolding pairs
+  pairs-or r q [] = refl
+  pairs-or r q (x ∷ xs) = rw (any-or (r x) (q x) xs, pairs-or r q xs) (or-shuffle (any (r x) xs) (any (q x) xs) (pairs r xs) (pairs q xs))
 
   -- a relation that never holds
   pub pairs-never : (r : A → A → Bool) → ((x y : A) → r x y ≡ false) → (xs : List A) → pairs r xs ≡ false
