@@ -6,3 +6,4 @@ pub mod PartLaws
 pub mod SortLaws
 pub mod LexLaws
 pub mod FoldLaws
+pub mod RegionLaws
