@@ -9,9 +9,9 @@ use lib.ListN.{length}
 use Rattle.lists.specs.Lists.{all, any, pairs}
 use Rattle.lists.specs.Order.{Perm, chained}
 use Rattle.lists.specs.Folding.{on, halt, verdict, kept, takeRows}
-use Rattle.lists.proofs.Bools.{torn, or-parts}
-use Rattle.lists.proofs.ListLaws.{all-parts, all-both, any-nil, any-hit, any-miss, any-later, any-parts, any-neither}
-use Rattle.lists.proofs.PairLaws.{pairs-nil, pairs-parts, pairs-neither, pairs-never, cross, cross-nil, cross-cons}
+use Rattle.lists.proofs.Bools.{torn, or-parts, or-right}
+use Rattle.lists.proofs.ListLaws.{all-parts, all-both, any-nil, any-hit, any-miss, any-later, any-parts, any-neither, any-imply}
+use Rattle.lists.proofs.PairLaws.{pairs-nil, pairs-parts, pairs-neither, cross, cross-nil, cross-cons}
 use Rattle.lists.proofs.SortLaws.{perm-refl, perm-sym, perm-middle}
 
 module _ {A : Type 0} where
@@ -91,17 +91,17 @@ module _ {A : Type 0} where
       pub kept-pairs : (xs : List A) → pairs r xs ≡ false → pairs r (kept same [] xs) ≡ false
       kept-pairs xs h = kept-free [] xs (pairs-nil r) (cross-nil r xs) h
 
-    -- rows of which no two are the same are all kept
-    module _ (even : (x y : A) → same x y ≡ same y x) where
-      pub kept-every : (rows xs : List A) → cross same xs rows ≡ false → pairs same xs ≡ false → kept same rows xs ≡ reverseAux xs rows
+    -- rows of which no two stand in a relation that holds wherever they are the same are all kept
+    module _ (r : A → A → Bool) (symm : (x y : A) → r x y ≡ r y x) (within : (x y : A) → r x y ≡ false → same x y ≡ false) where
+      pub kept-every : (rows xs : List A) → cross r xs rows ≡ false → pairs r xs ≡ false → kept same rows xs ≡ reverseAux xs rows
       kept-every rows [] h k = kept-nil rows
       kept-every rows (x ∷ xs) h k =
-          let p : (any (same x) rows ≡ false) × (cross same xs rows ≡ false) = any-parts (λ y. any (same y) rows) x xs h in
-          let q : (any (same x) xs ≡ false) × (pairs same xs ≡ false) = pairs-parts same x xs k in
-          kept-new rows x xs (p .0) ∙ kept-every (x ∷ rows) xs (cross-cons same even xs x rows ∙ rw (q .0) (p .1)) (q .1)
+          let p : (any (r x) rows ≡ false) × (cross r xs rows ≡ false) = any-parts (λ y. any (r y) rows) x xs h in
+          let q : (any (r x) xs ≡ false) × (pairs r xs ≡ false) = pairs-parts r x xs k in
+          kept-new rows x xs (any-imply (r x) (same x) (within x) rows (p .0)) ∙ kept-every (x ∷ rows) xs (cross-cons r symm xs x rows ∙ rw (q .0) (p .1)) (q .1)
 
-      pub kept-whole : (xs : List A) → pairs same xs ≡ false → kept same [] xs ≡ reverse xs
-      kept-whole xs h = kept-every [] xs (cross-nil same xs) h
+      pub kept-whole : (xs : List A) → pairs r xs ≡ false → kept same [] xs ≡ reverse xs
+      kept-whole xs h = kept-every [] xs (cross-nil r xs) h
 
   pub reverse-perm : (xs rows : List A) → Perm (reverseAux xs rows) (xs ++ rows)
   reverse-perm [] rows = perm-refl rows
@@ -170,21 +170,21 @@ module _ {A : Type 0} where
     unfolding any pairs
     fault-cons rows x xs = refl
 
-    module _ (symm : (x y : A) → clash x y ≡ clash y x) (alike : (x y z : A) → same x y ≡ true → clash x z ≡ true → clash y z ≡ true) where
+    module _ (symm : (x y : A) → clash x y ≡ clash y x) (alike : (x y z : A) → same x y ≡ true → clash x y ≡ false → clash x z ≡ true → clash y z ≡ true) where
       -- what clashes with a repeat clashes with the row it repeats
-      hit : (x z : A) (rows : List A) → any (same x) rows ≡ true → clash x z ≡ true → any (clash z) rows ≡ true
-      hit x z [] h k = torn (any (same x) []) h (any-nil (same x))
-      hit x z (r ∷ rs) h k = go (same x r) refl (hit x z rs)
+      hit : (x z : A) (rows : List A) → any (same x) rows ≡ true → any (clash x) rows ≡ false → clash x z ≡ true → any (clash z) rows ≡ true
+      hit x z [] h f k = torn (any (same x) []) h (any-nil (same x))
+      hit x z (r ∷ rs) h f k = go (same x r) refl (hit x z rs)
         where
-          go : (t : Bool) → same x r ≡ t → (any (same x) rs ≡ true → clash x z ≡ true → any (clash z) rs ≡ true) → any (clash z) (r ∷ rs) ≡ true
-          go true e ih = any-hit (clash z) r rs (symm z r ∙ alike x r z e k)
-          go false e ih = any-later (clash z) r rs (ih (sym (any-miss (same x) r rs e) ∙ h) k)
+          go : (t : Bool) → same x r ≡ t → (any (same x) rs ≡ true → any (clash x) rs ≡ false → clash x z ≡ true → any (clash z) rs ≡ true) → any (clash z) (r ∷ rs) ≡ true
+          go true e ih = any-hit (clash z) r rs (symm z r ∙ alike x r z e (any-parts (clash x) r rs f .0) k)
+          go false e ih = any-later (clash z) r rs (ih (sym (any-miss (same x) r rs e) ∙ h) (any-parts (clash x) r rs f .1) k)
 
       -- so that a repeat adds no clash
-      again-cross : (x : A) (rows : List A) → any (same x) rows ≡ true → (xs : List A) → (any (clash x) xs || cross clash xs rows) ≡ cross clash xs rows
+      again-cross : (x : A) (rows : List A) → any (same x) rows ≡ true → any (clash x) rows ≡ false → (xs : List A) → (any (clash x) xs || cross clash xs rows) ≡ cross clash xs rows
       unfolding any
-      again-cross x rows h [] = refl
-      again-cross x rows h (z ∷ zs) = go (clash x z) refl (again-cross x rows h zs)
+      again-cross x rows h f [] = refl
+      again-cross x rows h f (z ∷ zs) = go (clash x z) refl (again-cross x rows h f zs)
         where
           mid : (a b c : Bool) → (a || c) ≡ c → (a || (b || c)) ≡ (b || c)
           mid false b c i = refl
@@ -193,7 +193,7 @@ module _ {A : Type 0} where
 
           go : (t : Bool) → clash x z ≡ t → (any (clash x) zs || cross clash zs rows) ≡ cross clash zs rows
               → ((clash x z || any (clash x) zs) || (any (clash z) rows || cross clash zs rows)) ≡ (any (clash z) rows || cross clash zs rows)
-          go true e ih = rw (e, hit x z rows h e)
+          go true e ih = rw (e, hit x z rows h f e)
           go false e ih = rw e (mid (any (clash x) zs) (any (clash z) rows) (cross clash zs rows) ih)
 
       pub takes : (rows xs : List A) → takeRows own clash same rows xs ≡ verdict (fault rows xs) (kept same rows xs)
@@ -208,7 +208,7 @@ module _ {A : Type 0} where
           go false true e f ih =
               let q : fault rows (x ∷ xs) ≡ fault rows xs =
               fault-cons rows x xs ∙ fault-miss (own x) (any (clash x) rows) (any own xs) (cross clash xs rows) (any (clash x) xs) (pairs clash xs) e
-              ∙ ap (λ (t : Bool). any own xs || (t || pairs clash xs)) (again-cross x rows f xs) in
+              ∙ ap (λ (t : Bool). any own xs || (t || pairs clash xs)) (again-cross x rows f (or-parts (own x) (any (clash x) rows) e .1) xs) in
               take-again rows x xs e f ∙ ih rows ∙ rw (q, kept-again same rows x xs f)
           go false false e f ih =
               let q : fault rows (x ∷ xs) ≡ fault (x ∷ rows) xs =
@@ -228,8 +228,13 @@ module _ {A : Type 0} where
 
       -- where no two are the same, all are kept
       pub accepts-every : ((x y : A) → same x y ≡ same y x) → (xs : List A) → pairs same xs ≡ false → takeRows own clash same [] xs ≡ verdict (any own xs || pairs clash xs) (reverse xs)
-      accepts-every even xs h = accepts xs ∙ ap (verdict (any own xs || pairs clash xs)) (kept-whole same even xs h)
+      accepts-every even xs h = accepts xs ∙ ap (verdict (any own xs || pairs clash xs)) (kept-whole same same even (λ x y e. e) xs h)
 
-    -- lists of which no row repeats another
-    pub accepts-plain : ((x y : A) → clash x y ≡ clash y x) → ((x y : A) → same x y ≡ false) → (xs : List A) → takeRows own clash same [] xs ≡ verdict (any own xs || pairs clash xs) (reverse xs)
-    accepts-plain symm none xs = accepts-every symm (λ x y z e k. torn (same x y) e (none x y)) (λ x y. none x y ∙ sym (none y x)) xs (pairs-never same none xs)
+    -- lists in which a repeat would be a clash
+    pub accepts-plain : ((x y : A) → clash x y ≡ clash y x) → ((x y : A) → clash x y ≡ false → same x y ≡ false)
+        → (xs : List A) → takeRows own clash same [] xs ≡ verdict (any own xs || pairs clash xs) (reverse xs)
+    accepts-plain symm within xs = accepts symm (λ x y z e f k. torn (same x y) e (within x y f)) xs ∙ go (pairs clash xs) refl
+      where
+        go : (t : Bool) → pairs clash xs ≡ t → verdict (any own xs || pairs clash xs) (kept same [] xs) ≡ verdict (any own xs || pairs clash xs) (reverse xs)
+        go true e = let q : (any own xs || pairs clash xs) ≡ true = or-right (any own xs) (pairs clash xs) e in rw q
+        go false e = ap (verdict (any own xs || pairs clash xs)) (kept-whole same clash symm within xs e)
