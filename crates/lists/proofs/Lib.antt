@@ -5,3 +5,5 @@ pub mod PairLaws
 pub mod PartLaws
 pub mod SortLaws
 pub mod LexLaws
+pub mod FoldLaws
+pub mod RegionLaws

@@ -10,8 +10,8 @@ use lib.Seq.{drop-cons}
 use lib.Dec.{eqb}
 use borrow.Author.Tests.{eqb-true}
 use Rattle.lists.specs.Lists.{all, any, sameBy, pairs}
-use Rattle.lists.proofs.Bools.{torn, never, and-parts, or-parts, or-neither, eqb-same, eqb-symm}
-use Rattle.lists.proofs.ListLaws.{all-parts, any-nil, any-cons, any-parts, any-neither, any-append, any-same, any-or}
+use Rattle.lists.proofs.Bools.{torn, never, and-parts, or-parts, or-neither, or-shuffle, eqb-same, eqb-symm}
+use Rattle.lists.proofs.ListLaws.{all-parts, any-nil, any-cons, any-parts, any-neither, any-append, any-same, any-or, any-imply}
 
 module _ {A : Type 0} where
   -- TWO OF A LIST
@@ -64,6 +64,10 @@ module _ {A : Type 0} where
           any-same (λ x. any (r x) (y ∷ ys)) (λ x. r y x || any (r x) ys) (λ x. any-cons (r x) y ys ∙ ap (λ (t : Bool). t || any (r x) ys) (symm x y)) xs
           ∙ any-or (r y) (λ x. any (r x) ys) xs
 
+      pub cross-symm : (xs ys : List A) → cross xs ys ≡ cross ys xs
+      cross-symm xs [] = cross-nil xs ∙ sym (any-nil (λ x. any (r x) xs))
+      cross-symm xs (y ∷ ys) = cross-cons xs y ys ∙ ap (λ (t : Bool). any (r y) xs || t) (cross-symm xs ys) ∙ sym (any-cons (λ x. any (r x) xs) y ys)
+
       -- a symmetric relation: one row more behind is one row more in front
       pub pairs-snoc : (xs : List A) (x : A) → pairs r (xs ++ (x ∷ [])) ≡ pairs r (x ∷ xs)
       pairs-snoc xs x =
@@ -86,10 +90,19 @@ module _ {A : Type 0} where
       each (y ∷ ys) k′ h′ =
           any-neither (q x) y ys (f x y (all-parts p x xs k .0) (all-parts p y ys k′ .0) (any-parts (r x) y ys h′ .0)) (each ys (all-parts p y ys k′ .1) (any-parts (r x) y ys h′ .1))
 
+  pub pairs-within : (r q : A → A → Bool) → ((x y : A) → r x y ≡ false → q x y ≡ false) → (xs : List A) → pairs r xs ≡ false → pairs q xs ≡ false
+  pairs-within r q f [] h = pairs-nil q
+  pairs-within r q f (x ∷ xs) h = pairs-neither q x xs (any-imply (r x) (q x) (f x) xs (pairs-parts r x xs h .0)) (pairs-within r q f xs (pairs-parts r x xs h .1))
+
   pub pairs-same : (r q : A → A → Bool) → ((x y : A) → r x y ≡ q x y) → (xs : List A) → pairs r xs ≡ pairs q xs
   unfolding pairs
   pairs-same r q f [] = refl
   pairs-same r q f (x ∷ xs) = rw (any-same (r x) (q x) (f x) xs, pairs-same r q f xs)
+
+  pub pairs-or : (r q : A → A → Bool) (xs : List A) → pairs (λ x y. r x y || q x y) xs ≡ (pairs r xs || pairs q xs)
+  unfolding pairs
+  pairs-or r q [] = refl
+  pairs-or r q (x ∷ xs) = rw (any-or (r x) (q x) xs, pairs-or r q xs) (or-shuffle (any (r x) xs) (any (q x) xs) (pairs r xs) (pairs q xs))
 
   -- a relation that never holds
   pub pairs-never : (r : A → A → Bool) → ((x y : A) → r x y ≡ false) → (xs : List A) → pairs r xs ≡ false

@@ -141,6 +141,10 @@ module _ {A B : Type 0} where
     unfolding flat
     flat-cons x xs = refl
 
+    pub flat-behind : (x : A) (xs : List A) (z : List B) → flat f (x ∷ xs) ++ z ≡ f x ++ (flat f xs ++ z)
+    unfolding flat
+    flat-behind x xs z = append-assoc (f x) (flat f xs) z
+
     pub flat-one : (x : A) → flat f (x ∷ []) ≡ f x
     unfolding flat
     flat-one x = append-nil (f x)
