@@ -10,3 +10,4 @@ pub mod FieldLaws
 pub mod TextLaws
 pub mod WalkLaws
 pub mod NumberLaws
+pub mod SymbolLaws
