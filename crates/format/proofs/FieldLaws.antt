@@ -2,16 +2,17 @@
 -- labels" ("Fields are parted by blanks.") and "The one written form" ("one space between fields"). Assumes nothing.
 use Prim.Native.Nat.{ℕ, suc, _+_, _-_, _≤_, _<_}
 use mathlib.Core.Path.{_≡_, refl, sym, ap, _∙_}
-use mathlib.Core.Bool.{Bool, true, false, not}
+use mathlib.Core.Bool.{Bool, true, false, not, _||_}
 use mathlib.Core.List.{List, [], _∷_, _++_}
 use native.Mathlib.Omega.{arith}
 use native.Mathlib.Numerals.{add-one}
 use lib.ListN.{length, getD, take, drop, drop-of-length-le}
 use lib.Seq.{drop-cons, drop-drop}
 use Rattle.lists.specs.Lists.{all, any, span}
-use borrow.Author.Tests.{ne-eqb, not-true}
-use Rattle.lists.proofs.Bools.{and-left-false, or-neither}
-use Rattle.lists.proofs.ListLaws.{all-parts, any-parts, any-nil, any-neither, all-imply, span-nil, in-cons, out-cons, any-append}
+use lib.Dec.{eqb}
+use borrow.Author.Tests.{ne-eqb, eqb-true, not-true}
+use Rattle.lists.proofs.Bools.{and-left-false, or-neither, or-right, or-other}
+use Rattle.lists.proofs.ListLaws.{all-parts, all-both, any-parts, any-nil, any-neither, all-imply, span-nil, in-cons, out-cons, any-append}
 use Rattle.format.specs.Bytes.{Bytes, within, headIs, gap, allowed, consTo, ink, fields, dollar, strip, hash}
 use Rattle.format.specs.Writing.{behind, line, valued}
 use Rattle.format.proofs.CutLaws.{consTo-cons}
@@ -157,13 +158,40 @@ strip-none (b ∷ s) h =
     let e : (dollar b ≡ false) × (any dollar s ≡ false) = any-parts dollar b s h in
     strip-on b s (and-left-false (dollar b) (headIs dollar s) (e .0)) ∙ ap (λ (r : Bytes). b ∷ r) (strip-none s (e .1))
 
-pub dollarless : (w : Bytes) → all printed w ≡ true → any dollar w ≡ false
-dollarless [] h = any-nil dollar
-dollarless (b ∷ w) h = let e : (printed b ≡ true) × (all printed w ≡ true) = all-parts printed b w h in any-neither dollar b w (printed-dollar b (e .0)) (dollarless w (e .1))
+-- bytes of a printed line before its line feed: printed ones and spaces
+abbrev pub inline : ℕ → Bool
+inline b = eqb b 32 || printed b
 
-pub strip-value : (w : Bytes) → all printed w ≡ true → strip (valued w) ≡ valued w
+module _ (b : ℕ) (e : inline b ≡ true) where
+  pub inline-bounds : (32 ≤ b) × (b ≤ 126) × ((b ≡ 36 → ⊥) × (b ≡ 35 → ⊥))
+  inline-bounds = go (eqb b 32) refl
+    where
+      go : (t : Bool) → eqb b 32 ≡ t → (32 ≤ b) × (b ≤ 126) × ((b ≡ 36 → ⊥) × (b ≡ 35 → ⊥))
+      go true f = let q : b ≡ 32 = eqb-true b 32 f in (omega arith, omega arith, ((λ r. omega arith), (λ r. omega arith)))
+      go false f =
+          let p : (37 ≤ b) × (b ≤ 126) = printed-bounds b (or-other (eqb b 32) (printed b) e f) in
+          (omega (arith, p .0), p .1, ((λ r. omega (arith, p .0)), (λ r. omega (arith, p .0))))
+
+  pub inline-allowed : allowed b ≡ true
+  inline-allowed = allowed-seen b (inline-bounds .0) (inline-bounds .1)
+
+  pub inline-dollar : dollar b ≡ false
+  inline-dollar = ne-eqb b 36 (inline-bounds .2 .0)
+
+  pub inline-feed : not (eqb b 10) ≡ true
+  inline-feed = ap not (ne-eqb b 10 (λ r. omega (arith, inline-bounds .0)))
+
+pub printed-inline : (w : Bytes) → all printed w ≡ true → all inline w ≡ true
+printed-inline w h = all-imply printed inline (λ b e. or-right (eqb b 32) (printed b) e) w h
+
+pub dollarless : (w : Bytes) → all inline w ≡ true → any dollar w ≡ false
+dollarless [] h = any-nil dollar
+dollarless (b ∷ w) h = let e : (inline b ≡ true) × (all inline w ≡ true) = all-parts inline b w h in any-neither dollar b w (inline-dollar b (e .0)) (dollarless w (e .1))
+
+pub strip-line : (w : Bytes) → all inline w ≡ true → strip (w ++ (10 ∷ [])) ≡ w ++ (10 ∷ [])
+strip-line w h = strip-none (w ++ (10 ∷ [])) (any-append dollar w (10 ∷ []) ∙ or-neither (any dollar w) _ (dollarless w h) (any-neither dollar 10 [] refl (any-nil dollar)))
+
+pub strip-value : (w : Bytes) → all inline w ≡ true → strip (valued w) ≡ valued w
 unfolding valued
-strip-value [] h = strip-none (10 ∷ []) (any-neither dollar 10 [] refl (any-nil dollar))
-strip-value (b ∷ w) h =
-    let e : any dollar ((b ∷ w) ++ (10 ∷ [])) ≡ false = any-append dollar (b ∷ w) (10 ∷ []) ∙ or-neither _ _ (dollarless (b ∷ w) h) (any-neither dollar 10 [] refl (any-nil dollar)) in
-    strip-none (32 ∷ ((b ∷ w) ++ (10 ∷ []))) (any-neither dollar 32 _ refl e)
+strip-value [] h = strip-line [] h
+strip-value (b ∷ w) h = strip-line (32 ∷ b ∷ w) (all-both inline 32 (b ∷ w) refl h)

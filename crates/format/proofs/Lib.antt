@@ -9,3 +9,5 @@ pub mod ByteLaws
 pub mod FieldLaws
 pub mod TextLaws
 pub mod WalkLaws
+pub mod NumberLaws
+pub mod SymbolLaws
