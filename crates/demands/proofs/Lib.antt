@@ -1,2 +1,4 @@
 -- The theorems over the definitions, file by file. Assumes nothing.
 pub mod Worked
+pub mod Stretches
+pub mod Demands

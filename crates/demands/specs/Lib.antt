@@ -3,3 +3,4 @@ pub mod Cases
 pub mod Starred
 pub mod Neighbours
 pub mod Examples
+pub mod Stretches

@@ -12,6 +12,7 @@ use borrow.Author.Tests.{eq-eqb, ne-eqb}
 use native.Mathlib.Nat.{add-zero}
 use native.Mathlib.Numerals.{add-one}
 use Rattle.lists.specs.Lists.{isNil, all, span, concat}
+use Rattle.lists.proofs.Bools.{torn}
 use Rattle.format.specs.Bytes.{Bytes, consTo, cut, lineLen, wholeFrom, whole}
 
 -- no line feed; one line feed, at the end
@@ -55,12 +56,6 @@ pub concat-cons : (l : Bytes) (ls : List Bytes) → concat (l ∷ ls) ≡ l ++ c
 unfolding concat
 concat-cons l ls = refl
 
--- (lists)
-pub concat-append : (ls ms : List Bytes) → concat (ls ++ ms) ≡ concat ls ++ concat ms
-unfolding concat
-concat-append [] ms = refl
-concat-append (l ∷ ls) ms = ap (λ (r : Bytes). l ++ r) (concat-append ls ms) ∙ sym (append-assoc l (concat ls) (concat ms))
-
 -- cutting loses nothing
 pub consTo-concat : (b : ℕ) (ls : List Bytes) → concat (consTo b ls) ≡ b ∷ concat ls
 unfolding consTo concat
@@ -87,12 +82,12 @@ consTo-nil b = refl
 
 pub cut-line : (l s : Bytes) → full l ≡ true → cut (l ++ s) ≡ l ∷ cut s
 unfolding full
-cut-line [] s h = let z : _≡_ {A = ℕ} 0 1 = cc in absurd (omega arith)
+cut-line [] s h = torn false h refl
 cut-line (b ∷ l) s h = go (eqb b 10) refl l h (cut-line l s)
   where
     go : (t : Bool) → eqb b 10 ≡ t → (l : Bytes) → full (b ∷ l) ≡ true → (full l ≡ true → cut (l ++ s) ≡ l ∷ cut s) → cut (b ∷ (l ++ s)) ≡ (b ∷ l) ∷ cut s
     go true e [] h ih = cut-hit b s e
-    go true e (d ∷ l) h ih = let q : full (b ∷ d ∷ l) ≡ false = rw (e, full) in let z : _≡_ {A = ℕ} 0 1 = cc in absurd (omega arith)
+    go true e (d ∷ l) h ih = torn (full (b ∷ d ∷ l)) h (rw (e, full))
     go false e l h ih = cut-miss b (l ++ s) e ∙ ap (consTo b) (ih (sym (rw (e, full)) ∙ h)) ∙ consTo-cons b l (cut s)
 
 -- full lines in front: with s empty, or a last line without line feed
@@ -105,7 +100,7 @@ cut-lines (l ∷ ls) s h = go (full l) refl (cut-lines ls s)
     go true e ih =
         let q : allFull ls ≡ true = sym (rw (e, all)) ∙ h in
         ap cut (append-assoc l (concat ls) s) ∙ cut-line l (concat ls ++ s) e ∙ ap (λ (r : List Bytes). l ∷ r) (ih q)
-    go false e ih = let q : allFull (l ∷ ls) ≡ false = rw (e, all) in let z : _≡_ {A = ℕ} 0 1 = cc in absurd (omega arith)
+    go false e ih = torn (allFull (l ∷ ls)) h (rw (e, all))
 
 pub cut-last : (s : Bytes) → 0 < length s → feedless s ≡ true → cut s ≡ s ∷ []
 unfolding all
@@ -113,7 +108,7 @@ cut-last [] n h = absurd (omega arith)
 cut-last (b ∷ s) n h = go (eqb b 10) refl s h (cut-last s)
   where
     go : (t : Bool) → eqb b 10 ≡ t → (s : Bytes) → feedless (b ∷ s) ≡ true → (0 < length s → feedless s ≡ true → cut s ≡ s ∷ []) → cut (b ∷ s) ≡ (b ∷ s) ∷ []
-    go true e s h ih = let q : feedless (b ∷ s) ≡ false = rw (e, all) in let z : _≡_ {A = ℕ} 0 1 = cc in absurd (omega arith)
+    go true e s h ih = torn (feedless (b ∷ s)) h (rw (e, all))
     go false e [] h ih = cut-miss b [] e ∙ ap (consTo b) cut-nil ∙ consTo-nil b
     go false e (d ∷ s) h ih = cut-miss b (d ∷ s) e ∙ ap (consTo b) (ih (omega arith) (sym (rw (e, all)) ∙ h)) ∙ consTo-cons b (d ∷ s) []
 
@@ -180,12 +175,12 @@ cut-at s at h =
 -- lists that end in a line feed
 pub whole-any : (s : Bytes) → wholeFrom false s ≡ true → wholeFrom true s ≡ true
 unfolding wholeFrom
-whole-any [] h = let z : _≡_ {A = ℕ} 0 1 = cc in absurd (omega arith)
+whole-any [] h = torn false h refl
 whole-any (b ∷ s) h = h
 
 pub whole-cut : (s : Bytes) → wholeFrom false s ≡ true → (l : Bytes) × (ls : List Bytes) × (cut s ≡ l ∷ ls)
 unfolding wholeFrom
-whole-cut [] h = let z : _≡_ {A = ℕ} 0 1 = cc in absurd (omega arith)
+whole-cut [] h = torn false h refl
 whole-cut (b ∷ s) h = (_, _, cut-first (b ∷ s) (omega arith))
 
 pub consTo-append : (b : ℕ) (ls ms : List Bytes) (l : Bytes) (ks : List Bytes) → ls ≡ l ∷ ks → consTo b (ls ++ ms) ≡ consTo b ls ++ ms

@@ -4,10 +4,10 @@ pub mod Tables
 pub mod Places
 pub mod CutLaws
 pub mod ReadingLaws
-pub mod EndLaws
 pub mod ByteLaws
 pub mod FieldLaws
 pub mod TextLaws
+pub mod AcceptedLaws
 pub mod WalkLaws
 pub mod NumberLaws
 pub mod SymbolLaws

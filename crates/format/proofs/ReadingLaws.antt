@@ -1,6 +1,6 @@
 -- The laws of reading line by line: document 01, "The earliest line that breaks a rule decides, and on it the lowest number". First the clauses of a line's
 -- step and of the reading, then what a reading keeps, where it stops, and that what is accepted has an END line. Assumes nothing.
-use Prim.Native.Nat.{ℕ, suc, _+_, _-_}
+use Prim.Native.Nat.{ℕ, suc, _+_, _-_, _<_}
 use mathlib.Core.Path.{_≡_, refl, sym, ap, _∙_, subst}
 use mathlib.Core.Bool.{Bool, true, false, not, _&&_, _||_}
 use mathlib.Core.Logic.{_⊎_, inl, inr}
@@ -11,13 +11,13 @@ use native.Mathlib.Omega.{arith}
 use lib.ListN.{length, length-append, drop}
 use lib.Dec.{eqb, leb}
 use Rattle.lists.specs.Lists.{isNil, all, any, pairs, concat}
+use Rattle.lists.proofs.PartLaws.{concat-length}
 use Rattle.format.specs.Bytes.{Bytes, within, same, bytes, allowed, gap, strip, fields}
 use Rattle.format.specs.Labels.{ListOf, Holds, Text, Version, Formula, BlockId, Atoms, Rows, End, Skipped, Label, misplaced, Line, Plain, Unparted, Labelled, lineOf, titleLine}
 use Rattle.format.specs.Rows.{Row, AtomRow, number, field, atomShape, rowShape}
 use Rattle.format.specs.Formula.{Counted, formulaShape}
 use Rattle.format.specs.Structure.{unknown, massOk, rowsOf, most, ranged, meets, clash, entriesOf, agree}
 use Rattle.format.specs.Reading.{Rules, State, Turn, Go, Stop, if_stop_else_, past, atomCount, lacks, ordered, atomTurn, joined, joinTurn, rowTurn, formulaTurn, versionTurn, idValue, idTurn, unlessBlank, atomLine, rowLine, endTurn, valueTurn, blankOr, furtherTurn, over, opened, lineTurn, lineStep, Accepted, Refused, ending, readLines}
-use Rattle.format.proofs.CutLaws.{concat-cons}
 
 -- A LINE'S STEP
 module _ (u : Rules) (st : State) (l : Bytes) where
@@ -74,7 +74,7 @@ module _ (u : Rules) (st : State) where
   unfolding readLines
   read-end = refl
 
--- WHAT A TURN KEEPS: the place, the labels seen, the record that runs
+-- WHAT A TURN KEEPS: the place, the labels seen, the record that runs; and where it stops, the number is not 0, which says "accepted"
 pub record Same (st next : State) : Type 0 where
   pub at : next .at ≡ st .at
   pub seen : next .seen ≡ st .seen
@@ -82,55 +82,59 @@ pub record Same (st next : State) : Type 0 where
 
 pub record Keeps (st : State) (t : Turn) : Type 0 where
   pub gone : (next : State) → t ≡ Go next → Same st next
+  pub refuses : (n : ℕ) → t ≡ Stop n → 0 < n
+
+pub go-stop : {B : Type 0} (n : ℕ) (next : State) → Go next ≡ Stop n → B
+go-stop n next e = absurd (let z : _≡_ {A = ℕ} 0 1 = cc in omega arith)
 
 pub stop-go : {B : Type 0} (n : ℕ) (next : State) → Stop n ≡ Go next → B
 stop-go n next e = absurd (let z : _≡_ {A = ℕ} 0 1 = cc in omega arith)
 
 module _ (st : State) where
-  pub stop-keeps : (n : ℕ) → Keeps st (Stop n)
-  stop-keeps n = record { gone = λ next e. stop-go n next e }
+  pub stop-keeps : (n : ℕ) → 0 < n → Keeps st (Stop n)
+  stop-keeps n h = record { gone = λ next e. stop-go n next e; refuses = λ m e. let q : n ≡ m = cc in subst (λ (k : ℕ). 0 < k) q h }
 
   pub go-keeps : (new : State) → Same st new → Keeps st (Go new)
-  go-keeps new k = record { gone = λ next e. let q : new ≡ next = cc in subst (Same st) q k }
+  go-keeps new k = record { gone = λ next e. let q : new ≡ next = cc in subst (Same st) q k; refuses = λ n e. go-stop n new e }
 
-  pub if-keeps : (b : Bool) (n : ℕ) (t : Turn) → Keeps st t → Keeps st (if b stop n else t)
-  if-keeps true n t k = stop-keeps n
-  if-keeps false n t k = k
+  pub if-keeps : (b : Bool) (n : ℕ) (t : Turn) → 0 < n → Keeps st t → Keeps st (if b stop n else t)
+  if-keeps true n t h k = stop-keeps n h
+  if-keeps false n t h k = k
 
   alike : (new : State) → new .at ≡ st .at → new .seen ≡ st .seen → new .running ≡ st .running → Keeps st (Go new)
   alike new a s r = go-keeps new (record { at = a; seen = s; running = r })
 
   pub atom-keeps : (k : ℕ) (r : Option AtomRow) → Keeps st (atomTurn k st r)
   unfolding atomTurn
-  atom-keeps k none = stop-keeps 9
+  atom-keeps k none = stop-keeps 9 (omega arith)
   atom-keeps k (some r) =
-      if-keeps (not (massOk (r .symbol) && leb (r .hydrogens) 15)) 10 _
-      (if-keeps (not (eqb (r .number) (suc (atomCount st)))) 11 _ (if-keeps (unknown k (r .symbol)) 12 _ (if-keeps (leb 256 (atomCount st)) 14 _ (alike _ refl refl refl))))
+      if-keeps (not (massOk (r .symbol) && leb (r .hydrogens) 15)) 10 _ (omega arith)
+      (if-keeps (not (eqb (r .number) (suc (atomCount st)))) 11 _ (omega arith) (if-keeps (unknown k (r .symbol)) 12 _ (omega arith) (if-keeps (leb 256 (atomCount st)) 14 _ (omega arith) (alike _ refl refl refl))))
 
   joined-keeps : (again full : Bool) (new : State) → Keeps st (Go new) → Keeps st (joined again full st new)
   joined-keeps true full new k = alike st refl refl refl
-  joined-keeps false true new k = stop-keeps 14
+  joined-keeps false true new k = stop-keeps 14 (omega arith)
   joined-keeps false false new k = k
 
   pub row-keeps : (l : ListOf) (r : Option Row) → Keeps st (rowTurn l st r)
   unfolding rowTurn joinTurn
-  row-keeps l none = stop-keeps 9
+  row-keeps l none = stop-keeps 9 (omega arith)
   row-keeps l (some r) =
       let rs : List Row = rowsOf l (st .body) in
-      if-keeps (not (ranged l (r .value))) 10 _
-      (if-keeps (not (all (within 1 (atomCount st)) (r .atoms))) 11 _
-      (if-keeps (pairs eqb (r .atoms)) 13 _
-      (if-keeps (any (clash l (ordered r)) rs) 13 _ (joined-keeps (any (meets l (ordered r)) rs) (leb (most l) (length rs)) _ (alike _ refl refl refl)))))
+      if-keeps (not (ranged l (r .value))) 10 _ (omega arith)
+      (if-keeps (not (all (within 1 (atomCount st)) (r .atoms))) 11 _ (omega arith)
+      (if-keeps (pairs eqb (r .atoms)) 13 _ (omega arith)
+      (if-keeps (any (clash l (ordered r)) rs) 13 _ (omega arith) (joined-keeps (any (meets l (ordered r)) rs) (leb (most l) (length rs)) _ (alike _ refl refl refl)))))
 
   pub formula-keeps : (k : ℕ) (r : Option (List Counted)) → Keeps st (formulaTurn k st r)
   unfolding formulaTurn
-  formula-keeps k none = stop-keeps 9
+  formula-keeps k none = stop-keeps 9 (omega arith)
   formula-keeps k (some cs) =
-      if-keeps (not (all (λ c. massOk (c .symbol) && within 1 9999 (c .count)) cs)) 10 _ (if-keeps (any (λ c. unknown k (c .symbol)) cs) 12 _ (alike _ refl refl refl))
+      if-keeps (not (all (λ c. massOk (c .symbol) && within 1 9999 (c .count)) cs)) 10 _ (omega arith) (if-keeps (any (λ c. unknown k (c .symbol)) cs) 12 _ (omega arith) (alike _ refl refl refl))
 
   value-of-id : (alone : Bool) (n : Option ℕ) → Keeps st (idValue st alone n)
-  value-of-id alone none = stop-keeps 9
-  value-of-id alone (some n) = if-keeps (not alone) 9 _ (if-keeps (eqb n 0) 10 _ (alike _ refl refl refl))
+  value-of-id alone none = stop-keeps 9 (omega arith)
+  value-of-id alone (some n) = if-keeps (not alone) 9 _ (omega arith) (if-keeps (eqb n 0) 10 _ (omega arith) (alike _ refl refl refl))
 
   unless-keeps : (fs : List Bytes) (t : Turn) → Keeps st t → Keeps st (unlessBlank st fs t)
   unless-keeps [] t k = alike st refl refl refl
@@ -138,7 +142,7 @@ module _ (st : State) where
 
   pub version-keeps : (fs : List Bytes) → Keeps st (versionTurn st fs)
   unfolding versionTurn
-  version-keeps fs = if-keeps (not (same (field 0 fs) (bytes "3.7") && isNil (drop 1 fs))) 7 _ (alike _ refl refl refl)
+  version-keeps fs = if-keeps (not (same (field 0 fs) (bytes "3.7") && isNil (drop 1 fs))) 7 _ (omega arith) (alike _ refl refl refl)
 
   pub id-keeps : (fs : List Bytes) → Keeps st (idTurn st fs)
   unfolding idTurn
@@ -155,12 +159,12 @@ module _ (st : State) where
   pub end-keeps : (u : Rules) (fs : List Bytes) → Keeps st (endTurn u st fs)
   unfolding endTurn
   end-keeps u fs =
-      if-keeps (any (lacks (st .seen)) (2 ∷ 3 ∷ 4 ∷ 5 ∷ []) || eqb (atomCount st) 0) 8 _
-      (if-keeps (not (isNil fs)) 9 _ (if-keeps (u .totals && not (agree (st .formula) (entriesOf (st .body .atoms)))) 15 _ (alike _ refl refl refl)))
+      if-keeps (any (lacks (st .seen)) (2 ∷ 3 ∷ 4 ∷ 5 ∷ []) || eqb (atomCount st) 0) 8 _ (omega arith)
+      (if-keeps (not (isNil fs)) 9 _ (omega arith) (if-keeps (u .totals && not (agree (st .formula) (entriesOf (st .body .atoms)))) 15 _ (omega arith) (alike _ refl refl refl)))
 
-  pub blank-keeps : (n : ℕ) (l : Bytes) → Keeps st (blankOr n st l)
+  pub blank-keeps : (n : ℕ) (l : Bytes) → 0 < n → Keeps st (blankOr n st l)
   unfolding blankOr
-  blank-keeps n l = if-keeps (not (all gap l)) n _ (alike _ refl refl refl)
+  blank-keeps n l h = if-keeps (not (all gap l)) n _ h (alike _ refl refl refl)
 
   pub value-keeps : (u : Rules) (h : Holds) (from : ℕ) (v : Bytes) → Keeps st (valueTurn u h st from v)
   unfolding valueTurn
@@ -176,12 +180,12 @@ module _ (st : State) where
   pub further-keeps : (u : Rules) (h : Holds) (l : Bytes) → Keeps st (furtherTurn u h st l)
   unfolding furtherTurn
   further-keeps u (Text i) l = alike _ refl refl refl
-  further-keeps u Version l = blank-keeps 9 (strip l)
-  further-keeps u Formula l = blank-keeps 9 (strip l)
-  further-keeps u BlockId l = blank-keeps 9 (strip l)
+  further-keeps u Version l = blank-keeps 9 (strip l) (omega arith)
+  further-keeps u Formula l = blank-keeps 9 (strip l) (omega arith)
+  further-keeps u BlockId l = blank-keeps 9 (strip l) (omega arith)
   further-keeps u Atoms l = atoms-keeps (u .elements) (fields (strip l))
   further-keeps u (Rows r) l = rows-keeps r (fields (strip l))
-  further-keeps u End l = blank-keeps 17 l
+  further-keeps u End l = blank-keeps 17 l (omega arith)
   further-keeps u Skipped l = alike _ refl refl refl
 
 -- A LINE THAT GOES ON: no label line, or a label line that starts a record; never one without `=`
@@ -311,7 +315,7 @@ module _ (u : Rules) where
             lines = ap (λ (r : List Bytes). l ∷ r) (x .lines);
             goes = (next, e, x .goes);
             stops = x .stops;
-            place-is = x .place-is ∙ omega (arith, step-at u st l next e, ap length (concat-cons l (x .before)), length-append l (concat (x .before)));
+            place-is = x .place-is ∙ omega (arith, step-at u st l next e, concat-length l (x .before));
           })
       on next e (inr x) = inr (record { met = x .met; goes = (next, e, x .goes); not-over = x .not-over; ends = x .ends })
 

@@ -9,11 +9,21 @@ use native.Mathlib.Omega.{arith}
 use lib.ListN.{length, take, drop, drop-of-length-le}
 use lib.Seq.{length-take-le}
 use lib.Dec.{ltb}
-use borrow.Author.Tests.{lt-ltb, le-ltb}
+use borrow.Author.Tests.{eqb-true, ne-eqb, lt-ltb, le-ltb}
 use Rattle.format.specs.Bytes.{Bytes, cut, lineLen}
-use Rattle.format.specs.Labels.{titleLine, endLine}
+use Rattle.format.specs.Labels.{Line, Plain, Unparted, Labelled, lineOf, hasCode, titleLine, endLine}
 use Rattle.format.specs.Walking.{block, stray, Piece, piece, Mode, outside, inBlock, inStray, close, ended, next, move, run, pieces, Walked, Found, NotWalked, firstOf, walkedAs, walkAt}
 use Rattle.format.proofs.CutLaws.{cut-nil, cut-at, lineLen-le}
+
+-- a TITLE line is no END line
+codes-apart : (x : Line) → hasCode 1 x ≡ true → hasCode 13 x ≡ false
+codes-apart Plain h = refl
+codes-apart Unparted h = refl
+codes-apart (Labelled x v) h = ne-eqb 13 (x .code) (λ e. let q : 1 ≡ x .code = eqb-true 1 (x .code) h in omega arith)
+
+pub title-no-end : (l : Bytes) → titleLine l ≡ true → endLine l ≡ false
+unfolding titleLine endLine
+title-no-end l h = codes-apart (lineOf l) h
 
 -- MOVING
 abbrev pub shift : ℕ → List Piece → List Piece
