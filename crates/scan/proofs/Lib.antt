@@ -2,3 +2,4 @@
 pub mod KindLaws
 pub mod LineLaws
 pub mod NextFieldLaws
+pub mod NumeralLaws
