@@ -7,9 +7,8 @@ use mathlib.Core.List.{List, [], _∷_}
 use native.Mathlib.Omega.{arith}
 use native.Mathlib.Nat.{zero-add}
 use lib.ListN.{take}
-use lib.Dec.{leb}
-use borrow.Author.Tests.{lt-leb}
 use Rattle.lists.specs.Lists.{all}
+use Rattle.lists.proofs.Bools.{and-right-false}
 use Rattle.format.specs.Bytes.{Bytes, bytes, within, blank, gap, consTo, fields}
 use Rattle.format.specs.Rows.{symOf, upper, lower}
 use Rattle.format.specs.Structure.{symbols, placeOf, letters}
@@ -43,19 +42,6 @@ symbols-symbolic : all symbolic symbols ≡ true
 unfolding all symbols bytes within blank gap consTo fields
 symbols-symbolic = refl
 
--- outside of a range: no such letter
-pub within-under : (low high b : ℕ) → b < low → within low high b ≡ false
-unfolding within
-within-under low high b h = rw (lt-leb low b h)
-
-pub within-over : (low high b : ℕ) → high < b → within low high b ≡ false
-unfolding within
-within-over low high b h = rw (lt-leb b high h) (no (leb low b))
-  where
-    no : (t : Bool) → (t && false) ≡ false
-    no true = refl
-    no false = refl
-
 -- the place among the first few
 among-first : (last p : ℕ) (w : Bytes) → p ≡ placeOf 1 w symbols → upTo last p ≡ placeOf 1 w (take last symbols)
 among-first last p w e = ap₂ upTo (sym (zero-add last)) e ∙ sym (place-take 0 last w symbols)
@@ -75,13 +61,9 @@ module _ (a b last : ℕ) where
   pub no-second : (b ≡ 0 → ⊥) → lower b ≡ false → 0 ≡ placeOf 1 (letters (symOf false 0 a b)) (take last symbols)
   no-second n f = unspelt last (letters (symOf false 0 a b)) (go b n f)
     where
-      no : (t : Bool) → (t && false) ≡ false
-      no true = refl
-      no false = refl
-
       go : (b : ℕ) → (b ≡ 0 → ⊥) → lower b ≡ false → symbolic (letters (symOf false 0 a b)) ≡ false
       go zero n f = absurd (n refl)
-      go (suc b) n f = rw f (no (upper a))
+      go (suc b) n f = and-right-false (upper a) (lower (suc b)) f
 
   module _ (l : 65 ≤ a) (h : a ≤ 90) (e r : ℕ) (is : r ≡ upTo last e) where
     pub one-letter : b ≡ 0 → e ≡ placeOf 1 (spelling ((a - 65) * 27)) symbols → r ≡ placeOf 1 (letters (symOf false 0 a b)) (take last symbols)

@@ -7,6 +7,7 @@ use lib.ListN.{take}
 use lib.Dec.{eqb, leb}
 use borrow.Author.Tests.{eq-eqb, ne-eqb, le-leb, lt-leb}
 use Rattle.lists.specs.Lists.{sameBy}
+use Rattle.lists.proofs.Bools.{and-right-false}
 use Rattle.format.specs.Bytes.{Bytes, bytes, within, same}
 use Rattle.format.specs.Rows.{Sym, symOf}
 use Rattle.format.specs.Structure.{symbols, placeOf, letters, heavy, Isotope, isotopeOf, isotope, massOk}
@@ -22,11 +23,7 @@ same-lone a d = go (eqb a d)
 
 same-two : (a b d : ℕ) → same (a ∷ b ∷ []) (d ∷ []) ≡ false
 unfolding sameBy
-same-two a b d = go (eqb a d)
-  where
-    go : (t : Bool) → (t && false) ≡ false
-    go true = refl
-    go false = refl
+same-two a b d = and-right-false (eqb a d) false refl
 
 module _ (x : Sym) (d : ℕ) where
   pub letter-is : x .second ≡ 0 → same (letters x) (d ∷ []) ≡ eqb (x .first) d

@@ -2,7 +2,7 @@
 -- all, if that is one of them. Serves the elements of document 01, "Rows". Assumes nothing.
 use Prim.Native.Nat.{ℕ, zero, suc, _+_, _≤_, _<_}
 use mathlib.Core.Path.{_≡_, refl, sym, ap, ap₂, _∙_}
-use mathlib.Core.Bool.{Bool, true, false, _&&_, true≢false}
+use mathlib.Core.Bool.{Bool, true, false}
 use mathlib.Core.List.{List, [], _∷_}
 use mathlib.Core.Logic.{_⊎_, inl, inr}
 use native.Mathlib.Omega.{arith}
@@ -10,16 +10,11 @@ use lib.ListN.{take}
 use lib.Dec.{eqb, leb}
 use borrow.Author.Tests.{eqb-true, le-leb, lt-leb}
 use Rattle.lists.specs.Lists.{all, sameBy}
+use Rattle.lists.proofs.Bools.{torn, and-parts}
+use Rattle.lists.proofs.ListLaws.{all-parts}
 use Rattle.format.specs.Bytes.{Bytes, same}
 use Rattle.format.specs.Structure.{placeOf}
 use Rattle.rows.specs.Spelling.{upTo}
-
-pub torn : {A : Type 0} (b : Bool) → b ≡ true → b ≡ false → A
-torn b p q = absurd (true≢false (sym p ∙ q))
-
-pub and-parts : (a b : Bool) → (a && b) ≡ true → (a ≡ true) × (b ≡ true)
-and-parts true b e = (refl, e)
-and-parts false b e = torn false e refl
 
 -- words that are the same are equal
 pub same-equal : (v w : Bytes) → same v w ≡ true → v ≡ w
@@ -45,10 +40,10 @@ module _ (n : ℕ) (w x : Bytes) (xs : List Bytes) where
 pub place-outside : (q : Bytes → Bool) (n : ℕ) (w : Bytes) (xs : List Bytes) → all q xs ≡ true → q w ≡ false → placeOf n w xs ≡ 0
 unfolding placeOf all
 place-outside q n w [] a f = refl
-place-outside q n w (x ∷ xs) a f = go (same w x) refl (place-outside q (suc n) w xs (and-parts (q x) (all q xs) a .1) f)
+place-outside q n w (x ∷ xs) a f = go (same w x) refl (place-outside q (suc n) w xs (all-parts q x xs a .1) f)
   where
     go : (t : Bool) → same w x ≡ t → placeOf (suc n) w xs ≡ 0 → placeOf n w (x ∷ xs) ≡ 0
-    go true e ih = torn (q x) (and-parts (q x) (all q xs) a .0) (sym (ap q (same-equal w x e)) ∙ f)
+    go true e ih = torn (q x) (all-parts q x xs a .0) (sym (ap q (same-equal w x e)) ∙ f)
     go false e ih = place-past n w x xs e ∙ ih
 
 -- a place is 0, or at least the number that the first one has

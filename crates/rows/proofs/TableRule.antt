@@ -5,7 +5,7 @@ use mathlib.Core.List.{List, [], _∷_}
 use Prim.Native.Nat.{ℕ, zero, suc, _+_, _<_}
 use native.Mathlib.Nat.{zero-add, add-zero, add-suc, suc-add, le-of-suc-le-suc, not-suc-le-zero}
 use lib.ListN.{length, getD}
-use Rattle.rows.proofs.PlaceLaws.{and-parts}
+use Rattle.lists.proofs.Bools.{and-parts}
 
 -- the test passes at each entry and its place, counted from i
 unfoldable pub every : (ℕ → ℕ → Bool) → ℕ → List ℕ → Bool

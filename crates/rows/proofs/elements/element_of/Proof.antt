@@ -1,15 +1,16 @@
 -- `rows::elements::element_of` meets its contract. Assumes nothing.
 use native.Mathlib.Omega.{arith}
-use Rattle.rows.proofs.ElementLaws.{within-under, within-over, no-first, no-second, one-letter, two-letters}
+use Rattle.format.proofs.ByteLaws.{within-low, within-high}
+use Rattle.rows.proofs.ElementLaws.{no-first, no-second, one-letter, two-letters}
 use borrow.Author.Needs.{needs}
 use Rattle.rows.proofs.elements.element_of.Statement.{statement}
 use Rattle.rows.proofs.elements.element_of.Tie as tie
 
 returns : tie.Need-returns
-returns c = let x = c .before .args in no-first (x .first) (x .second) (x .last) (within-under _ _ _ (omega arith))
+returns c = let x = c .before .args in no-first (x .first) (x .second) (x .last) (within-low _ _ _ (omega arith))
 
 returns-2 : tie.Need-returns-2
-returns-2 c = let x = c .before .before .args in no-first (x .first) (x .second) (x .last) (within-over _ _ _ (omega arith))
+returns-2 c = let x = c .before .before .args in no-first (x .first) (x .second) (x .last) (within-high _ _ _ (omega arith))
 
 sub-row : tie.Need-sub-row
 sub-row c = search needs
@@ -27,10 +28,10 @@ returns-3 : tie.Need-returns-3
 returns-3 c = one-letter _ _ _ (omega arith) (omega arith) _ _ (c .among .ensures) (c .before .before .if3 .taken) (c .before .entry-at .ensures)
 
 returns-4 : tie.Need-returns-4
-returns-4 c = let x = c .before .before .before .before .args in no-second (x .first) (x .second) (x .last) (c .before .if3 .left) (within-under _ _ _ (omega arith))
+returns-4 c = let x = c .before .before .before .before .args in no-second (x .first) (x .second) (x .last) (c .before .if3 .left) (within-low _ _ _ (omega arith))
 
 returns-5 : tie.Need-returns-5
-returns-5 c = let x = c .before .before .before .before .before .args in no-second (x .first) (x .second) (x .last) (c .before .before .if3 .left) (within-over _ _ _ (omega arith))
+returns-5 c = let x = c .before .before .before .before .before .args in no-second (x .first) (x .second) (x .last) (c .before .before .if3 .left) (within-high _ _ _ (omega arith))
 
 sub-entry-at : tie.Need-sub-entry-at
 sub-entry-at c = search needs
