@@ -1,0 +1,6 @@
+-- The laws that the code of this crate rests on, file by file. Assumes nothing.
+pub mod PlaceLaws
+pub mod TableRule
+pub mod PlaceTable
+pub mod ElementLaws
+pub mod IsotopeLaws

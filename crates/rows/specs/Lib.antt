@@ -1,0 +1,3 @@
+-- How the code's values are shown as those of the definitions, file by file. Assumes nothing.
+pub mod Spelling
+pub mod Shown
