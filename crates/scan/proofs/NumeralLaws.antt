@@ -1,77 +1,36 @@
--- The digits of a word, clause by clause and at an index, how large they get, and the sign before them. Serves document 01, "Rows" ("An unsigned number is 1 to 6
+-- How large the digits of a word get, and the sign before them. Serves document 01, "Rows" ("An unsigned number is 1 to 6
 -- digits; a signed one may have `+` or `-` before them"). Assumes nothing.
-use Prim.Native.Nat.{ℕ, _+_, _-_, _*_, _^_, _≤_, _<_}
+use Prim.Native.Nat.{ℕ, _-_, _^_, _≤_, _<_}
 use mathlib.Core.Path.{_≡_, refl, sym, ap, _∙_}
 use mathlib.Core.Bool.{true, false}
 use mathlib.Core.Option.{Option, none, some}
 use mathlib.Core.List.{[], _∷_}
-use native.Mathlib.Nat.{pow-le-pow-right, pow-suc}
-use native.Mathlib.Numerals.{add-one}
+use native.Mathlib.Nat.{pow-le-pow-right}
 use native.Mathlib.Omega.{arith}
-use lib.ListN.{length, getD, take, drop, length-drop, drop-of-length-le}
+use lib.ListN.{length, getD, take, drop, length-drop}
 use lib.Seq.{take-all, drop-cons}
 use lib.IntN.{ℤ}
 use lib.Dec.{eqb}
 use borrow.Author.Tests.{eq-eqb, ne-eqb}
 use Rattle.format.specs.Bytes.{Bytes}
-use Rattle.format.specs.Rows.{digit, numberFrom, digitsOf, number, natural, negative, signed}
-use Rattle.format.proofs.ByteLaws.{within-low, within-high, within-is}
+use Rattle.format.specs.Rows.{digitsOf, number, natural, negative, signed}
+use Rattle.format.proofs.NumberLaws.{digits-of-bound}
 use Rattle.scan.specs.declared.numbers.Numeral.{Numeral}
 use Rattle.scan.specs.declared.numbers.Numeral.the-variants as N
 use Rattle.scan.specs.declared.numbers.SignedNumeral.{SignedNumeral}
 use Rattle.scan.specs.declared.numbers.SignedNumeral.the-variants as S
 use Rattle.scan.specs.ShownNumbers.{shownNumber, Shows, shownSigned, ShowsSigned, plusOf, minusOf}
 
--- DIGITS
-from-digit : (a d : ℕ) (w : Bytes) → digit d ≡ true → numberFrom a (d ∷ w) ≡ numberFrom (a * 10 + (d - 48)) w
-unfolding numberFrom
-from-digit a d w e = rw (e, numberFrom)
-
-from-other : (a d : ℕ) (w : Bytes) → digit d ≡ false → numberFrom a (d ∷ w) ≡ none
-unfolding numberFrom
-from-other a d w e = rw (e, numberFrom)
-
-module _ (w : Bytes) (i a : ℕ) where
-  pub from-at-digit : i < length w → digit (getD w i 0) ≡ true → numberFrom a (drop i w) ≡ numberFrom (a * 10 + (getD w i 0 - 48)) (drop (i + 1) w)
-  from-at-digit h e = rw (drop-cons w i 0 h, add-one) (from-digit _ _ _ e)
-
-  pub from-at-other : i < length w → digit (getD w i 0) ≡ false → numberFrom a (drop i w) ≡ none
-  from-at-other h e = rw (drop-cons w i 0 h) (from-other _ _ _ e)
-
-  pub from-at-end : length w ≤ i → numberFrom a (drop i w) ≡ some a
-  unfolding numberFrom
-  from-at-end h = rw (drop-of-length-le w h)
-
-module _ (most : ℕ) (w : Bytes) where
-  pub digits-short : length w < 1 → digitsOf most w ≡ none
-  unfolding digitsOf
-  digits-short h = rw (within-low 1 most (length w) h, digitsOf)
-
-  pub digits-long : most < length w → digitsOf most w ≡ none
-  unfolding digitsOf
-  digits-long h = rw (within-high 1 most (length w) h, digitsOf)
-
-  pub digits-fit : 1 ≤ length w → length w ≤ most → digitsOf most w ≡ numberFrom 0 w
-  unfolding digitsOf
-  digits-fit h k = rw (within-is 1 most (length w) h k, digitsOf)
-
--- a number of i digits, and one more
+-- DIGITS: fewer than six of them leave room for one more
 pub tens-small : (i : ℕ) → i < 6 → 10 ^ i ≤ 100000
 tens-small i h = pow-le-pow-right (omega arith) {j = 5} (omega arith)
 
-pub tens-more : (n i d : ℕ) → n < 10 ^ i → d < 10 → n * 10 + d < 10 ^ (i + 1)
-tens-more n i d h k = rw (add-one, pow-suc) (omega arith)
-
-pub tens-up : (n i k : ℕ) → n < 10 ^ i → i ≤ k → n < 10 ^ k
-tens-up n i k h l = let z : 10 ^ i ≤ 10 ^ k = pow-le-pow-right (omega arith) {j = k} l in omega arith
-
 -- ANSWERS
-module _ (bound : ℕ) where
-  pub shows-wrong : (o : Option ℕ) → o ≡ none → Shows bound o N.Wrong
-  shows-wrong o e = record { is = sym e; small = λ n q. let z : _≡_ {A = ℕ} 0 1 = cc in absurd (omega arith) }
+pub shows-wrong : (bound : ℕ) (o : Option ℕ) → o ≡ none → Shows bound o N.Wrong
+shows-wrong bound o e = record { is = sym e; small = λ n q. let z : _≡_ {A = ℕ} 0 1 = cc in absurd (omega arith) }
 
-  pub shows-value : (o : Option ℕ) (n : ℕ) → o ≡ some n → n < bound → Shows bound o (N.Value n)
-  shows-value o n e h = record { is = sym e; small = λ m q. let z : n ≡ m = cc in omega arith }
+pub shows-digits : (most n : ℕ) (w : Bytes) → digitsOf most w ≡ some n → Shows (10 ^ most) (digitsOf most w) (N.Value n)
+shows-digits most n w e = record { is = sym e; small = λ m q. let z : n ≡ m = cc in omega (arith, digits-of-bound most n w e .2) }
 
 -- SIGNS
 pub signed-none : (w : Bytes) → length w < 1 → signed w ≡ none

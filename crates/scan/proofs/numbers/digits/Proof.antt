@@ -7,7 +7,9 @@ use borrow.Author.Tests.{not-true, not-false}
 use lib.ListN.{length, drop}
 use Rattle.format.specs.Rows.{digitsOf, numberFrom}
 use Rattle.format.proofs.ByteLaws.{digit-bounds}
-use Rattle.scan.proofs.NumeralLaws.{digits-short, digits-long, digits-fit, from-at-digit, from-at-other, from-at-end, tens-small, tens-more, tens-up, shows-wrong, shows-value}
+use native.Mathlib.Numerals.{add-one}
+use Rattle.format.proofs.NumberLaws.{digits-of, digits-of-none, digits-of-long, from-at-digit, from-at-other, from-at-end, bound-more}
+use Rattle.scan.proofs.NumeralLaws.{tens-small, shows-wrong, shows-digits}
 use Rattle.scan.proofs.numbers.digits.Statement.{statement}
 use Rattle.scan.proofs.numbers.digits.Tie as tie
 
@@ -18,13 +20,13 @@ abbrev μ-loop : tie.MeasureT-loop
 μ-loop word most n₀ i₀ n i = length word - i
 
 returns : tie.Need-returns Inv-loop μ-loop
-returns c = shows-wrong _ _ (digits-short _ _ (c .if1 .taken))
+returns c = shows-wrong _ _ (digits-of-none _ _ (omega arith))
 
 returns-2 : tie.Need-returns-2 Inv-loop μ-loop
-returns-2 c = shows-wrong _ _ (digits-long _ _ (c .if2 .taken))
+returns-2 c = shows-wrong _ _ (digits-of-long _ _ (c .if2 .taken))
 
 loop-holds : tie.Need-loop-holds Inv-loop μ-loop
-loop-holds c = (omega arith, omega arith, digits-fit _ _ (c .before .if1 .left) (c .if2 .left))
+loop-holds c = (omega arith, omega arith, digits-of _ _ (c .before .if1 .left) (c .if2 .left))
 
 shared-slice-read-d : tie.Need-shared-slice-read-d Inv-loop μ-loop
 shared-slice-read-d c = search needs
@@ -54,10 +56,10 @@ loop-less : tie.Need-loop-less Inv-loop μ-loop
 loop-less c = search needs
 
 loop-again : tie.Need-loop-again Inv-loop μ-loop
-loop-again c = (omega arith, tens-more _ _ _ (c .before .before .before .before .loop .inv .1) (omega (arith, digit-bounds _ (sym (c .before .is-digit .ensures) ∙ not-false _ (c .if3 .left)) .1)), c .before .before .before .before .loop .inv .2 ∙ from-at-digit _ _ _ (c .before .before .before .loop-test .taken) (sym (c .before .is-digit .ensures) ∙ not-false _ (c .if3 .left)))
+loop-again c = (omega arith, rw add-one (bound-more _ _ _ (c .before .before .before .before .loop .inv .1) (sym (c .before .is-digit .ensures) ∙ not-false _ (c .if3 .left))), c .before .before .before .before .loop .inv .2 ∙ from-at-digit _ _ _ (c .before .before .before .loop-test .taken) (sym (c .before .is-digit .ensures) ∙ not-false _ (c .if3 .left)))
 
 returns-4 : tie.Need-returns-4 Inv-loop μ-loop
-returns-4 c = shows-value _ _ _ (c .before .loop .inv .2 ∙ from-at-end _ _ _ (c .loop-test .left)) (tens-up _ _ _ (c .before .loop .inv .1) (omega arith))
+returns-4 c = shows-digits _ _ _ (c .before .loop .inv .2 ∙ from-at-end _ _ _ (c .loop-test .left))
 
 pub digits-spec : {M : Type 1} → statement M
 digits-spec =
