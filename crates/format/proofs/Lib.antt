@@ -9,3 +9,4 @@ pub mod ByteLaws
 pub mod FieldLaws
 pub mod TextLaws
 pub mod WalkLaws
+pub mod OrderLaws
