@@ -11,3 +11,4 @@ pub mod AcceptedLaws
 pub mod WalkLaws
 pub mod NumberLaws
 pub mod SymbolLaws
+pub mod OrderLaws
