@@ -11,3 +11,5 @@ pub mod TextLaws
 pub mod WalkLaws
 pub mod NumberLaws
 pub mod SymbolLaws
+pub mod FormulaLaws
+pub mod FormulaBack
