@@ -140,6 +140,11 @@ row-back [] h = fields-feed
 row-back (w ∷ ws) h = word-then w ws (h .0) (h .1) ∙ ap (λ (r : List Bytes). w ∷ r) (fields-behind ws (h .2))
 
 -- after the label's `=` comes a space, or at once the line feed
+pub valued-is : (v : Bytes) → 0 < length v → valued v ≡ 32 ∷ (v ++ (10 ∷ []))
+unfolding valued
+valued-is [] n = absurd (omega arith)
+valued-is (b ∷ v) n = refl
+
 pub value-back : (w : Bytes) → 0 < length w → all printed w ≡ true → fields (valued w) ≡ w ∷ []
 unfolding valued
 value-back [] n h = absurd (omega arith)

@@ -12,3 +12,5 @@ pub mod WalkLaws
 pub mod NumberLaws
 pub mod SymbolLaws
 pub mod OrderLaws
+pub mod FormulaLaws
+pub mod FormulaBack

@@ -209,6 +209,14 @@ pub printed-number : (n : ℕ) → Number (digits n)
 unfolding digits
 printed-number n = record { digits = digits-digits 6 n; some = digits-some 5 n; few = digits-most 6 n }
 
+pub number-few : (j n : ℕ) → n < 10 ^ suc j → length (digits n) ≤ suc j
+unfolding digits
+number-few j n h = digits-few 6 j n h
+
+pub number-value : (n : ℕ) → n < 1000000 → value 0 (digits n) ≡ n
+unfolding digits
+number-value n h = digits-value 6 n h
+
 pub digit-printed : (b : ℕ) → digit b ≡ true → printed b ≡ true
 digit-printed b e = within-is 37 126 b (omega (arith, digit-bounds b e .0)) (omega (arith, digit-bounds b e .1))
 
