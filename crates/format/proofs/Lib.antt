@@ -14,3 +14,4 @@ pub mod SymbolLaws
 pub mod OrderLaws
 pub mod FormulaLaws
 pub mod FormulaBack
+pub mod TotalLaws

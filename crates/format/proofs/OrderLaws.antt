@@ -1,5 +1,5 @@
 -- The order of rows by their atoms, the row without atoms last, is strict, and rows that do not meet have distinct keys; meeting, repeating and clashing are
--- symmetric. So no two rows that meet is all that sorting and accepting a list needs: document 01, "Rows" and "The structure table". Assumes nothing.
+-- symmetric. So that no two rows meet is all that sorting and accepting a list need: document 01, "Rows" and "The structure table". Assumes nothing.
 use Prim.Native.Nat.{ℕ}
 use mathlib.Core.Path.{_≡_, refl, sym, ap, _∙_}
 use mathlib.Core.Bool.{Bool, true, false, not, _&&_, _||_, and-comm, and-true, or-false}
