@@ -15,3 +15,5 @@ pub mod OrderLaws
 pub mod FormulaLaws
 pub mod FormulaBack
 pub mod TotalLaws
+pub mod RowLines
+pub mod RowLaws

@@ -10,14 +10,16 @@ use native.Mathlib.Numerals.{add-one}
 use lib.ListN.{length, take, drop, getD, length-drop}
 use lib.Seq.{take-suc, drop-nil, getD-drop}
 use lib.Dec.{eqb}
-use Rattle.lists.specs.Lists.{span, concat}
+use Rattle.lists.specs.Lists.{all, span, concat}
 use borrow.Author.Tests.{not-true}
 use Rattle.lists.proofs.Bools.{and-parts, and-right-false}
-use Rattle.lists.proofs.ListLaws.{span-nil, in-cons, out-cons, all-parts}
-use Rattle.format.specs.Bytes.{Bytes, gap, consTo, cut, lineLen, wholeFrom, whole, lead, keep, trimEnd, trim, hash, isLabel, unlabelled}
+use Rattle.lists.proofs.ListLaws.{span-nil, in-cons, out-cons, all-parts, all-nil, all-both, all-append-both}
+use Rattle.lists.proofs.PairLaws.{bytes-equal}
+use Rattle.format.specs.Bytes.{Bytes, same, gap, allowed, consTo, cut, lineLen, wholeFrom, whole, lead, keep, trimEnd, trim, hash, isLabel, unlabelled}
+use Rattle.format.specs.Table.{textFine}
 use Rattle.format.specs.Writing.{valued}
 use Rattle.format.proofs.CutLaws.{feedless, notFeed, concat-cut, concat-cons, cut-hit, cut-miss, cut-nil, cut-first, cut-append, consTo-cons}
-use Rattle.format.proofs.ByteLaws.{space-gap, feed-gap, unlabelled-cons}
+use Rattle.format.proofs.ByteLaws.{space-gap, feed-gap, allowed-gap, unlabelled-cons}
 
 -- LEAD AND TRIM, clause by clause
 pub lead-is : (s : Bytes) → lead s ≡ span gap s
@@ -329,3 +331,35 @@ valued-some (b ∷ t) = omega arith
 
 pub text-back : (h t rest : Bytes) → feedless h ≡ true → trim t ≡ t → unlabelled t ≡ true → TextLines h t rest
 text-back h t rest f w u = text-lines h t (valued t) rest (valued-some t) (valued-whole h t true) (unlabelled-valued t u) f refl (trim-valued t w)
+
+-- WHAT A FINE TEXT SAYS
+pub record FineText (t : Bytes) : Type 0 where
+  pub trimmed : trim t ≡ t
+  pub fine : all allowed t ≡ true
+  pub plain : unlabelled t ≡ true
+
+pub text-fine : (t : Bytes) → textFine t ≡ true → FineText t
+unfolding textFine
+text-fine t h =
+    let p = and-parts (same (trim t) t) _ h in
+    let q = and-parts (all allowed t) (unlabelled t) (p .1) in
+    record { trimmed = bytes-equal (trim t) t (p .0); fine = q .0; plain = q .1 }
+
+pub valued-allowed : (t : Bytes) → all allowed t ≡ true → all allowed (valued t) ≡ true
+unfolding valued
+valued-allowed [] h = all-both allowed 10 [] (allowed-gap 10 feed-gap) h
+valued-allowed (b ∷ t) h = all-both allowed 32 ((b ∷ t) ++ (10 ∷ [])) (allowed-gap 32 space-gap) (all-append-both allowed (b ∷ t) (10 ∷ []) h (all-both allowed 10 [] (allowed-gap 10 feed-gap) (all-nil allowed)))
+
+-- where each byte passes a test, each line's bytes do
+consTo-all : (p : ℕ → Bool) (b : ℕ) (ls : List Bytes) → p b ≡ true → all (all p) ls ≡ true → all (all p) (consTo b ls) ≡ true
+unfolding consTo
+consTo-all p b [] e h = all-both (all p) (b ∷ []) [] (all-both p b [] e (all-nil p)) h
+consTo-all p b (l ∷ ls) e h = let q : (all p l ≡ true) × (all (all p) ls ≡ true) = all-parts (all p) l ls h in all-both (all p) (b ∷ l) ls (all-both p b l e (q .0)) (q .1)
+
+pub cut-all : (p : ℕ → Bool) (s : Bytes) → all p s ≡ true → all (all p) (cut s) ≡ true
+cut-all p [] h = ap (all (all p)) cut-nil ∙ all-nil (all p)
+cut-all p (b ∷ s) h = go (eqb b 10) refl (all-parts p b s h .0) (cut-all p s (all-parts p b s h .1))
+  where
+    go : (t : Bool) → eqb b 10 ≡ t → p b ≡ true → all (all p) (cut s) ≡ true → all (all p) (cut (b ∷ s)) ≡ true
+    go true e f ih = ap (all (all p)) (cut-hit b s e) ∙ all-both (all p) (b ∷ []) (cut s) (all-both p b [] f (all-nil p)) ih
+    go false e f ih = ap (all (all p)) (cut-miss b s e) ∙ consTo-all p b (cut s) f ih
