@@ -10,7 +10,7 @@ use lib.ListN.{length, take, drop, drop-of-length-le}
 use lib.Seq.{length-take-le}
 use lib.Dec.{ltb}
 use borrow.Author.Tests.{eqb-true, ne-eqb, lt-ltb, le-ltb}
-use Rattle.format.specs.Bytes.{Bytes, cut, lineLen}
+use Rattle.format.specs.Bytes.{Bytes, isLabel, cut, lineLen}
 use Rattle.format.specs.Labels.{Line, Plain, Unparted, Labelled, lineOf, hasCode, titleLine, endLine}
 use Rattle.format.specs.Walking.{block, stray, Piece, piece, Mode, outside, inBlock, inStray, close, ended, next, move, run, pieces, Walked, Found, NotWalked, firstOf, walkedAs, walkAt}
 use Rattle.format.proofs.CutLaws.{cut-nil, cut-at, lineLen-le}
@@ -24,6 +24,16 @@ codes-apart (Labelled x v) h = ne-eqb 13 (x .code) (λ e. let q : 1 ≡ x .code 
 pub title-no-end : (l : Bytes) → titleLine l ≡ true → endLine l ≡ false
 unfolding titleLine endLine
 title-no-end l h = codes-apart (lineOf l) h
+
+-- a line that is no label line is neither
+module _ (l : Bytes) (e : isLabel l ≡ false) where
+  pub plain-no-title : titleLine l ≡ false
+  unfolding titleLine lineOf
+  plain-no-title = rw (e, lineOf)
+
+  pub plain-no-end : endLine l ≡ false
+  unfolding endLine lineOf
+  plain-no-end = rw (e, lineOf)
 
 -- MOVING
 abbrev pub shift : ℕ → List Piece → List Piece
