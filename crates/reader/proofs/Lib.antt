@@ -1,2 +1,4 @@
 -- The laws of the reader, file by file. Assumes nothing.
 pub mod StepLaws
+pub mod ShapeLaws
+pub mod FitLaws
