@@ -3,3 +3,5 @@ pub mod KindLaws
 pub mod LineLaws
 pub mod NextFieldLaws
 pub mod NumeralLaws
+pub mod KeyLaws
+pub mod LabelLaws

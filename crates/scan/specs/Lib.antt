@@ -2,3 +2,5 @@
 pub mod Cuts
 pub mod NextFields
 pub mod ShownNumbers
+pub mod Keys
+pub mod ShownLines
