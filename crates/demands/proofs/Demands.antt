@@ -1,18 +1,60 @@
 -- The demands of document 01, each in its words and in one statement, proved by one citation. Nothing else stands in this file. Assumes nothing.
-use Prim.Native.Nat.{ℕ, _+_, _≤_}
+use Prim.Native.Nat.{ℕ, _+_, _<_, _≤_}
 use mathlib.Core.Path.{_≡_}
 use mathlib.Core.Bool.{true}
-use mathlib.Core.List.{List, _++_}
-use lib.ListN.{length}
+use mathlib.Core.List.{List, [], _∷_, _++_, map}
+use lib.ListN.{length, drop, replicate}
 use lib.IntN.{ℤ}
 use Rattle.lists.specs.Lists.{any}
 use Rattle.format.specs.Bytes.{Bytes, bytes, cut, whole}
 use Rattle.format.specs.Labels.{endLine}
-use Rattle.format.specs.Table.{readResult}
+use Rattle.format.specs.Structure.{Isotope, Entry, total, agree}
+use Rattle.format.specs.Table.{zeros, readAnswer, readResult}
+use Rattle.format.specs.Writing.{unwritten, writeResult}
 use Rattle.format.specs.Walking.{pieces, answers}
-use Rattle.demands.specs.Examples.{neon, wrongNeon}
+use Rattle.format.proofs.TotalLaws as totals
+use Rattle.demands.specs.Cases.{judged}
+use Rattle.demands.specs.Starred.{starred}
+use Rattle.demands.specs.Neighbours.{neighbours}
+use Rattle.demands.specs.Examples.{formicInput, formicWritten, formicTable, neon, wrongNeon}
 use Rattle.demands.specs.Stretches.{closing, opening, moved, _then_, Chain, steps}
+use Rattle.demands.proofs.Worked as worked
+use Rattle.demands.proofs.Refused as refused
 use Rattle.demands.proofs.Stretches as stretches
+
+-- DEMAND 1
+-- "A refused reading zeroes the structure table, save where that table is too short and is untouched."
+pub refused-zero : (k : ℕ) (b : Bytes) (t : List ℤ) → 3856 ≤ length t → (readResult k b t .number ≡ 0 → ⊥) → readResult k b t .table ≡ zeros 3856 ++ drop 3856 t
+refused-zero = refused.refused-zero
+
+pub short-untouched : (k : ℕ) (b : Bytes) (t : List ℤ) → length t < 3856 → readResult k b t ≡ readAnswer 1 0 t
+short-untouched = refused.short-untouched
+
+-- "A refused writing changes nothing.": it answers 0 bytes and leaves the buffer as lent
+pub refused-write : (k : ℕ) (t : List ℤ) (b buffer : Bytes) → (writeResult k t b buffer .number ≡ 0 → ⊥) → writeResult k t b buffer ≡ unwritten (writeResult k t b buffer .number) buffer
+refused-write = refused.refused-write
+
+-- DEMAND 2, what stands of it so far
+-- "At END, for every element and mass, the formula's total over all fragments equals the atoms listed": the finite test is that rule
+pub totals-agree : (es fs : List Entry) → agree es fs ≡ true → (i : Isotope) → total i es ≡ total i fs
+totals-agree es fs = totals.agree-every es fs
+
+pub totals-enough : (es fs : List Entry) → ((i : Isotope) → total i es ≡ total i fs) → agree es fs ≡ true
+totals-enough es fs = totals.every-agree es fs
+
+-- "Marked * to be proved.": the starred cases as one list, then the others of "Neon and its neighbours"
+pub starred-hold : map judged starred ≡ map (λ c. c .answer) starred
+starred-hold = worked.starred-hold
+
+pub neighbours-hold : map judged neighbours ≡ map (λ c. c .answer) neighbours
+neighbours-hold = worked.neighbours-hold
+
+-- formic acid is read to its table, and that table is written as document 01 has it, byte for byte
+pub formic-read : readResult 103 (bytes formicInput) (zeros 3856) ≡ readAnswer 0 0 formicTable
+formic-read = worked.formic-read
+
+pub formic-written : writeResult 103 formicTable (bytes formicInput) (replicate 158 7) ≡ record { number = 0; count = 156; buffer = bytes formicWritten ++ (7 ∷ 7 ∷ []) }
+formic-written = worked.formic-written
 
 -- DEMAND 3
 -- "Take a file of three stretches, within the file limit: the first empty or ending with a block closed by its END line and line feed; the second anything,

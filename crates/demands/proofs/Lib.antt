@@ -1,4 +1,5 @@
 -- The theorems over the definitions, file by file. Assumes nothing.
 pub mod Worked
+pub mod Refused
 pub mod Stretches
 pub mod Demands
