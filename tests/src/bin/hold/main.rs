@@ -35,12 +35,15 @@ fn main() {
     let root = PathBuf::from("target/held");
     laid_out(&root, &theorems).expect("target/held can be written");
     let checked = Command::new("rt").args(["check", "held"]).current_dir(&root).output().expect("rt runs");
-    let said = String::from_utf8_lossy(&checked.stdout).into_owned() + &String::from_utf8_lossy(&checked.stderr);
+    let said =
+        String::from_utf8_lossy(&checked.stdout).into_owned() + &String::from_utf8_lossy(&checked.stderr);
     let refused: Vec<&str> = said.lines().filter(|line| line.contains(": error: `case-")).collect();
     refused.iter().take(20).for_each(|line| println!("{}", line.chars().take(400).collect::<String>()));
     report(&theorems, &named, began.elapsed().as_secs());
     if !checked.status.success() || said.contains("logic=not-proved") {
-        println!("{said}");
+        if refused.is_empty() {
+            println!("{said}");
+        }
         println!("the definitions and the independent reader DIFFER");
         exit(1);
     }

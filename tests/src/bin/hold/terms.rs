@@ -33,7 +33,8 @@ fn joined<Member: PartialEq + Copy>(
 
 /// Bytes, in parentheses.
 pub fn bytes(text: &[u8]) -> String {
-    let quoted = |part: &[u8]| format!("bytes \"{}\"", part.iter().map(|byte| character(*byte)).collect::<String>());
+    let quoted =
+        |part: &[u8]| format!("bytes \"{}\"", part.iter().map(|byte| character(*byte)).collect::<String>());
     format!("({})", joined(text, quoted, |size, byte| format!("replicate {size} {byte}")))
 }
 

@@ -133,7 +133,8 @@ pub fn file_cases(count: usize, seed: u64) -> Vec<Theorem> {
     for _ in 0..count {
         let file = generate::file(&mut random);
         let pieces: Vec<String> = independent::pieces(&file).iter().map(piece).collect();
-        let all = if pieces.is_empty() { String::from("[]") } else { format!("({} ∷ [])", pieces.join(" ∷ ")) };
+        let all =
+            if pieces.is_empty() { String::from("[]") } else { format!("({} ∷ [])", pieces.join(" ∷ ")) };
         let mut statement = format!("(pieces {} ≡ {all})", bytes(&file));
         let mut numbers = Vec::new();
         for place in [0, random.below(file.len() + 1), file.len(), file.len() + 1 + random.below(3)] {
@@ -158,5 +159,11 @@ fn too_long(place: usize) -> Theorem {
     let answer = independent::walk(&vec![b'#'; length], place);
     assert_eq!(answer, Walked::Refused(31));
     let statement = format!("walkAt (repeated {length} 35) {place} ≡ {}", walked(&answer));
-    Theorem { of: "files", numbers: vec![31], statement, open: "walkAt", proof: "rw (repeated-length 16777217 35)" }
+    Theorem {
+        of: "files",
+        numbers: vec![31],
+        statement,
+        open: "walkAt",
+        proof: "rw (repeated-length 16777217 35)",
+    }
 }
