@@ -5,3 +5,6 @@ pub mod NextFieldLaws
 pub mod NumeralLaws
 pub mod KeyLaws
 pub mod LabelLaws
+pub mod TrimLaws
+pub mod SpellingLaws
+pub mod LetterLaws

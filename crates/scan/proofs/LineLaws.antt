@@ -1,7 +1,7 @@
 -- Where a line ends and where its comment starts, by an index: what the loops over one line cite. Serves document 01, "Lines and labels". Assumes nothing.
 use Prim.Native.Nat.{ℕ, suc, _+_, _≤_, _<_}
 use mathlib.Core.Path.{_≡_, sym, ap, _∙_}
-use mathlib.Core.Bool.{true, false, _&&_}
+use mathlib.Core.Bool.{Bool, true, false, _&&_}
 use native.Mathlib.Nat.{add-zero}
 use native.Mathlib.Numerals.{add-one}
 use native.Mathlib.Omega.{arith}
@@ -10,9 +10,11 @@ use lib.Seq.{drop-cons}
 use borrow.Author.Tests.{eq-eqb, ne-eqb}
 use Rattle.lists.proofs.Bools.{and-left-false, and-right-false}
 use Rattle.format.specs.Bytes.{Bytes, lineLen, headIs, dollar, strip}
+use Rattle.lists.specs.Lists.{span}
+use Rattle.lists.proofs.ListLaws.{span-within}
 use Rattle.format.proofs.CutLaws.{lineLen-le, lineLen-pos}
 use Rattle.format.proofs.ByteLaws.{strip-two, strip-on, strip-take, strip-le}
-use Rattle.scan.specs.Cuts.{LineEnd, comment, Uncommented}
+use Rattle.scan.specs.Cuts.{LineEnd, RunEnd, comment, Uncommented}
 
 -- THE LINE'S END
 pub ends : (s : Bytes) (at r : ℕ) → r ≡ at + lineLen (drop at s) → LineEnd s at r
@@ -22,6 +24,10 @@ ends s at r e = record {
   more = λ h. let k : 0 < length (drop at s) = simp length-drop (omega arith) in omega (arith, lineLen-pos (drop at s) k);
   high = λ h. omega (arith, lineLen-le (drop at s), length-drop at s);
 }
+
+-- THE END OF A RUN
+pub runs : (p : ℕ → Bool) (s : Bytes) (at r : ℕ) → r ≡ at + span p (drop at s) → RunEnd p s at r
+runs p s at r e = record { is = e; low = omega arith; high = λ h. omega (arith, span-within p s at h) }
 
 -- THE COMMENT'S START
 module _ (s : Bytes) (i : ℕ) where

@@ -29,8 +29,11 @@ tens-small i h = pow-le-pow-right (omega arith) {j = 5} (omega arith)
 pub shows-wrong : (bound : ℕ) (o : Option ℕ) → o ≡ none → Shows bound o N.Wrong
 shows-wrong bound o e = record { is = sym e; small = λ n q. let z : _≡_ {A = ℕ} 0 1 = cc in absurd (omega arith) }
 
+pub shows-value : (bound : ℕ) (o : Option ℕ) (n : ℕ) → o ≡ some n → n < bound → Shows bound o (N.Value n)
+shows-value bound o n e h = record { is = sym e; small = λ m q. let z : n ≡ m = cc in omega arith }
+
 pub shows-digits : (most n : ℕ) (w : Bytes) → digitsOf most w ≡ some n → Shows (10 ^ most) (digitsOf most w) (N.Value n)
-shows-digits most n w e = record { is = sym e; small = λ m q. let z : n ≡ m = cc in omega (arith, digits-of-bound most n w e .2) }
+shows-digits most n w e = shows-value (10 ^ most) (digitsOf most w) n e (digits-of-bound most n w e .2)
 
 -- SIGNS
 pub signed-none : (w : Bytes) → length w < 1 → signed w ≡ none

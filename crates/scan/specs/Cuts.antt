@@ -1,9 +1,10 @@
--- Where a line ends and where its comment starts: document 01, "Lines and labels". Assumes nothing.
+-- Where a line, a run of bytes and what stands before a comment end: document 01, "Lines and labels". Assumes nothing.
 use Prim.Native.Nat.{ℕ, _+_, _≤_, _<_}
 use mathlib.Core.Path.{_≡_}
 use mathlib.Core.Bool.{Bool, false, _&&_}
 use mathlib.Core.List.{[], _∷_}
 use lib.ListN.{length, take, drop}
+use Rattle.lists.specs.Lists.{span}
 use Rattle.format.specs.Bytes.{Bytes, lineLen, headIs, dollar, strip}
 
 -- r is where the line that starts at `at` ends
@@ -11,6 +12,12 @@ pub record LineEnd (s : Bytes) (at r : ℕ) : Type 0 where
   pub is : r ≡ at + lineLen (drop at s)
   pub low : at ≤ r
   pub more : at < length s → at < r
+  pub high : at ≤ length s → r ≤ length s
+
+-- r is where the run of bytes that pass a test ends, from `at` on
+pub record RunEnd (p : ℕ → Bool) (s : Bytes) (at r : ℕ) : Type 0 where
+  pub is : r ≡ at + span p (drop at s)
+  pub low : at ≤ r
   pub high : at ≤ length s → r ≤ length s
 
 -- whether `$$` stands in front

@@ -4,3 +4,5 @@ pub mod NextFields
 pub mod ShownNumbers
 pub mod Keys
 pub mod ShownLines
+pub mod ShownSymbols
+pub mod Trims

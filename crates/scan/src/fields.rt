@@ -1,9 +1,6 @@
 // Fields of a line: "Fields are parted by blanks." The line's own line feed parts them too.
-ghost use mathlib.Core.Path.{_≡_};
-ghost use Prim.Native.Nat.{_+_};
-ghost use lib.ListN.{drop};
-ghost use Rattle.lists.specs.Lists.{span};
 ghost use Rattle.format.specs.Bytes.{gap, ink};
+ghost use Rattle.scan.specs.Cuts.{RunEnd};
 ghost use Rattle.scan.specs.NextFields.{NextField};
 
 // The part of a slice from one index up to another; where the two are equal there is none.
@@ -14,7 +11,7 @@ pub struct Field {
 
 // Where the gaps that start at `at` end.
 pub fn gap_end(line: &[u8], at: usize) -> usize
-    ensures { λ r. ⌜ r ≡ at + span gap (drop at (now (line .entry))) ⌝ }
+    ensures { λ r. ⌜ RunEnd gap (now (line .entry)) at r ⌝ }
 {
     let mut i = at;
     while i < line.len() {
@@ -28,7 +25,7 @@ pub fn gap_end(line: &[u8], at: usize) -> usize
 
 // Where the field that starts at `at` ends.
 pub fn ink_end(line: &[u8], at: usize) -> usize
-    ensures { λ r. ⌜ r ≡ at + span ink (drop at (now (line .entry))) ⌝ }
+    ensures { λ r. ⌜ RunEnd ink (now (line .entry)) at r ⌝ }
 {
     let mut i = at;
     while i < line.len() {

@@ -1,7 +1,8 @@
 // Numbers that a word says: document 01, "Rows".
 ghost use mathlib.Core.Path.{_≡_};
 ghost use Prim.Native.Nat.{_≤_, _^_};
-ghost use Rattle.format.specs.Rows.{digitsOf, number, signed};
+ghost use Rattle.format.specs.Rows.{digit, digitsOf, number, signed};
+ghost use Rattle.scan.specs.Cuts.{RunEnd};
 ghost use Rattle.scan.specs.ShownNumbers.{Shows, ShowsSigned, plusOf, minusOf};
 
 // A number, or no shape of one.
@@ -55,6 +56,21 @@ pub fn mass(word: &[u8]) -> Numeral
     digits(word, 3)
 }
 
+// Where the digits that start at `at` end.
+pub fn digit_end(word: &[u8], at: usize) -> usize
+    ensures { λ r. ⌜ RunEnd digit (now (word .entry)) at r ⌝ }
+{
+    let mut i = at;
+    while i < word.len() {
+        if !crate::bytes::is_digit(word[i]) {
+            return i;
+        }
+        i += 1;
+    }
+    i
+}
+
+// A number with a plus.
 fn plus(n: Numeral) -> SignedNumeral
     ensures { λ r. ⌜ r ≡ plusOf n ⌝ }
 {
@@ -64,6 +80,7 @@ fn plus(n: Numeral) -> SignedNumeral
     }
 }
 
+// A number with a minus.
 fn minus(n: Numeral) -> SignedNumeral
     ensures { λ r. ⌜ r ≡ minusOf n ⌝ }
 {

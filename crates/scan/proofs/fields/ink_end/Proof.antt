@@ -7,6 +7,7 @@ use lib.ListN.{length, drop}
 use Rattle.lists.specs.Lists.{span}
 use Rattle.lists.proofs.ListLaws.{span-in, span-out, span-end}
 use Rattle.format.specs.Bytes.{ink}
+use Rattle.scan.proofs.LineLaws.{runs}
 use Rattle.scan.proofs.fields.ink_end.Statement.{statement}
 use Rattle.scan.proofs.fields.ink_end.Tie as tie
 
@@ -26,7 +27,7 @@ is-gap-requires : tie.Need-is-gap-requires Inv-loop μ-loop
 is-gap-requires c κs = search needs
 
 returns : tie.Need-returns Inv-loop μ-loop
-returns c = sym (c .before .before .before .before .loop .inv ∙ span-out ink 0 _ _ (c .before .before .before .loop-test .taken) (ap not (sym (c .before .is-gap .ensures) ∙ c .if1 .taken)))
+returns c = runs _ _ _ _ (sym (c .before .before .before .before .loop .inv ∙ span-out ink 0 _ _ (c .before .before .before .loop-test .taken) (ap not (sym (c .before .is-gap .ensures) ∙ c .if1 .taken))))
 
 add-i : tie.Need-add-i Inv-loop μ-loop
 add-i c = search needs
@@ -38,7 +39,7 @@ loop-again : tie.Need-loop-again Inv-loop μ-loop
 loop-again c = c .before .before .before .before .loop .inv ∙ span-in ink 0 _ _ (c .before .before .before .loop-test .taken) (ap not (sym (c .before .is-gap .ensures) ∙ c .if1 .left))
 
 returns-2 : tie.Need-returns-2 Inv-loop μ-loop
-returns-2 c = sym (c .before .loop .inv ∙ span-end ink _ _ (c .loop-test .left))
+returns-2 c = runs _ _ _ _ (sym (c .before .loop .inv ∙ span-end ink _ _ (c .loop-test .left)))
 
 pub ink-end-spec : {M : Type 1} → statement M
 ink-end-spec =

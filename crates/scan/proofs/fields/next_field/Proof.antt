@@ -11,7 +11,7 @@ ink-end-requires : tie.Need-ink-end-requires
 ink-end-requires c κs = search needs
 
 returns : tie.Need-returns
-returns c = next-is _ _ _ (c .before .gap-end .ensures) (c .ink-end .ensures)
+returns c = next-is _ _ _ (c .before .gap-end .ensures .is) (c .ink-end .ensures .is)
 
 pub next-field-spec : {M : Type 1} → statement M
 next-field-spec = tie.close (tie.spec gap-end-requires ink-end-requires returns)
