@@ -9,7 +9,7 @@ use mathlib.Core.List.{List, [], _∷_}
 use native.Mathlib.Omega.{arith}
 use lib.ListN.{length}
 use lib.Dec.{eqb, ltb, leb}
-use borrow.Author.Tests.{leb-true, leb-false, le-leb, eq-eqb, ne-eqb, lt-ltb, le-ltb}
+use borrow.Author.Tests.{not-false, leb-true, leb-false, le-leb, eq-eqb, ne-eqb, lt-ltb, le-ltb}
 use Rattle.lists.specs.Lists.{all, any, pairs}
 use Rattle.lists.specs.Order.{sort, ascends, level}
 use Rattle.lists.proofs.Bools.{and-parts, and-both}
@@ -37,10 +37,6 @@ refused-kept n xs e = let z : _≡_ {A = ℕ} 0 1 = cc in absurd (omega arith)
 pub breaks-kept : {A : Type 0} (b : Bool) (n : ℕ) (next : After A) (xs : List A) → (if b breaks n else next) ≡ kept xs → (b ≡ false) × (next ≡ kept xs)
 breaks-kept true n next xs e = refused-kept n xs e
 breaks-kept false n next xs e = (refl, e)
-
-pub held : (b : Bool) → not b ≡ false → b ≡ true
-held true e = refl
-held false e = sym e
 
 -- NUMBERS IN ORDER: distinct ones ascend when they are sorted
 level-eqb : (x y : ℕ) → level ltb x y ≡ eqb x y
@@ -135,7 +131,7 @@ module _ (l : ListOf) (n : ℕ) (rs next : List Row) where
       let a = breaks-kept (not (ranged l (r .value))) 10 (if not (all (within 1 n) (r .atoms)) breaks 11 else if pairs eqb (r .atoms) breaks 13 else joinAfter l rs o) next e in
       let b = breaks-kept (not (all (within 1 n) (r .atoms))) 11 (if pairs eqb (r .atoms) breaks 13 else joinAfter l rs o) next (a .1) in
       let c = breaks-kept (pairs eqb (r .atoms)) 13 (joinAfter l rs o) next (b .1) in
-      join-kept o (ordered-fits l n r s (held (ranged l (r .value)) (a .0)) (held (all (within 1 n) (r .atoms)) (b .0)) (c .0)) (c .1)
+      join-kept o (ordered-fits l n r s (not-false (ranged l (r .value)) (a .0)) (not-false (all (within 1 n) (r .atoms)) (b .0)) (c .0)) (c .1)
 
   pub step-kept : (fs : List Bytes) → rowStep l n rs fs ≡ kept next → (next ≡ rs) ⊎ Added l n rs next
   unfolding rowStep rowAfter

@@ -2,3 +2,9 @@
 pub mod StepLaws
 pub mod ShapeLaws
 pub mod FitLaws
+pub mod KeyLaws
+pub mod SearchLaws
+pub mod GapLaws
+pub mod IndexLaws
+pub mod RegionRows
+pub mod JoinLaws

@@ -1,0 +1,42 @@
+-- Tests and order told member by member, at an index: one that passes, none that passes, where a run ends, an earlier member before a later one. Over any
+-- element. Serves the laws of rows in regions. Assumes nothing.
+use Prim.Native.Nat.{ℕ, zero, suc, _≤_, _<_}
+use mathlib.Core.Path.{_≡_, refl, ap, _∙_}
+use mathlib.Core.Bool.{Bool, true, false}
+use mathlib.Core.List.{List, [], _∷_}
+use native.Mathlib.Omega.{arith}
+use lib.ListN.{length, getD}
+use Rattle.lists.specs.Lists.{all, any, span}
+use Rattle.lists.specs.Order.{ascends, Strict}
+use Rattle.lists.proofs.ListLaws.{all-nil, all-both, all-at, any-nil, any-hit, any-later, any-neither, span-nil, in-cons, out-cons}
+use Rattle.lists.proofs.SortLaws.{ascends-parts, ascends-first}
+
+module _ {A : Type 0} (p : A → Bool) (d : A) where
+  -- one that passes
+  pub any-index : (xs : List A) (i : ℕ) → i < length xs → p (getD xs i d) ≡ true → any p xs ≡ true
+  any-index [] i h e = absurd (omega arith)
+  any-index (x ∷ xs) zero h e = any-hit p x xs e
+  any-index (x ∷ xs) (suc i) h e = any-later p x xs (any-index xs i (omega arith) e)
+
+  -- none does
+  pub any-nowhere : (xs : List A) → ((i : ℕ) → i < length xs → p (getD xs i d) ≡ false) → any p xs ≡ false
+  any-nowhere [] f = any-nil p
+  any-nowhere (x ∷ xs) f = any-neither p x xs (f 0 (omega arith)) (any-nowhere xs (λ i h. f (suc i) (omega arith)))
+
+  -- where a run ends
+  pub span-index : (xs : List A) (n : ℕ) → n ≤ length xs → ((i : ℕ) → i < n → p (getD xs i d) ≡ true) → (n < length xs → p (getD xs n d) ≡ false) → span p xs ≡ n
+  span-index [] n h f g = span-nil p ∙ omega arith
+  span-index (x ∷ xs) zero h f g = out-cons p x xs (g (omega arith))
+  span-index (x ∷ xs) (suc n) h f g = in-cons p x xs (f 0 (omega arith)) ∙ ap suc (span-index xs n (omega arith) (λ i k. f (suc i) (omega arith)) (λ k. g (omega arith)))
+
+-- in order, an earlier member stands before a later one
+pub ascends-at : {A : Type 0} (before : A → A → Bool) → Strict before → (d : A) (xs : List A) (i j : ℕ) → ascends before xs ≡ true → i < j → j < length xs → before (getD xs i d) (getD xs j d) ≡ true
+ascends-at before S d [] i j a h k = absurd (omega arith)
+ascends-at before S d (x ∷ xs) i zero a h k = absurd (omega arith)
+ascends-at before S d (x ∷ xs) zero (suc j) a h k = all-at (before x) d xs j (ascends-first before S x xs a) (omega arith)
+ascends-at before S d (x ∷ xs) (suc i) (suc j) a h k = ascends-at before S d xs i j (ascends-parts before x xs a .1) (omega arith) (omega arith)
+
+-- a test that all pass
+pub all-every : {A : Type 0} (xs : List A) → all (λ x. true) xs ≡ true
+all-every [] = all-nil (λ x. true)
+all-every (x ∷ xs) = all-both (λ y. true) x xs refl (all-every xs)
