@@ -2,3 +2,5 @@
 pub mod StepLaws
 pub mod ShapeLaws
 pub mod FitLaws
+pub mod SeenLaws
+pub mod ValueLaws

@@ -1,3 +1,5 @@
 // Reading one block into a table: document 01, "Lines and labels", "Rows", "Refusal numbers".
 mod after; // after.rt: what a line leaves of its list
 mod progress; // progress.rt: what is known before a line
+mod seen; // seen.rt: the labels seen so far and their order
+mod values; // values.rt: the values that stand on their label line
