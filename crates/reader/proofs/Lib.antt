@@ -8,3 +8,5 @@ pub mod GapLaws
 pub mod IndexLaws
 pub mod RegionRows
 pub mod JoinLaws
+pub mod SeenLaws
+pub mod ValueLaws

@@ -5,3 +5,4 @@ pub mod Shown
 pub mod Progress
 pub mod Shows
 pub mod Keyed
+pub mod Values

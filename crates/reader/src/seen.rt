@@ -1,0 +1,60 @@
+// The labels seen so far and their order: document 01, "Lines and labels". 14 numbers by code, 1 for a label that was seen.
+ghost use mathlib.Core.Path.{_≡_};
+ghost use mathlib.Core.List.{List, [], _∷_};
+ghost use Prim.Native.Nat.{_<_};
+ghost use lib.ListN.{length};
+ghost use Rattle.lists.specs.Lists.{any};
+ghost use Rattle.format.specs.Labels.{Label, known, misplaced};
+ghost use Rattle.format.specs.Reading.{noted, lacks};
+ghost use Rattle.scan.specs.ShownLines.{byCode};
+ghost use Rattle.reader.specs.Regions.{seenFrom, topOf};
+
+// Where the interval of each label begins and ends, by code; b must follow a where a's interval ends before b's begins.
+const LOW: [u32; 14] = [0, 1, 2, 3, 4, 5, 6, 7, 8, 9, 9, 9, 3, 10];
+
+const HIGH: [u32; 14] = [10, 1, 2, 3, 4, 5, 6, 7, 8, 9, 9, 9, 9, 10];
+
+// "Each at most once. A label is out of order if a known label that must follow it has been seen."
+pub fn out_of_order(seen: &[u32], top: u32, code: usize) -> bool
+    requires { ⌜ (length (now seen) ≡ 14) × (code < 14) ⌝ }
+    ensures { λ r. ⌜ ((labels : List Label) → now (seen .entry) ≡ seenFrom 14 0 labels → top ≡ topOf labels → r ≡ misplaced labels (byCode code known)) ⌝ }
+{
+    if seen[code] != 0 {
+        return true;
+    }
+    HIGH[code] < top
+}
+
+// The label is noted among those seen, an unknown one is not; the answer is the new top.
+pub fn note(seen: &mut [u32], top: u32, code: usize) -> u32
+    requires { ⌜ (length (now seen) ≡ 14) × (code < 14) ⌝ }
+    ensures { λ r. ⌜ (length (now (seen .exit)) ≡ 14) × ((labels : List Label) → now (seen .entry) ≡ seenFrom 14 0 labels → top ≡ topOf labels →
+        (now (seen .exit) ≡ seenFrom 14 0 (noted code (byCode code known) labels)) × (r ≡ topOf (noted code (byCode code known) labels))) ⌝ }
+{
+    if code == 0 {
+        return top;
+    }
+    seen[code] = 1;
+    let low = LOW[code];
+    if top < low {
+        return low;
+    }
+    top
+}
+
+// Whether JCAMP-CS, ORIGIN, OWNER or MOLFORM is missing.
+pub fn lacking(seen: &[u32]) -> bool
+    requires { ⌜ length (now seen) ≡ 14 ⌝ }
+    ensures { λ r. ⌜ ((labels : List Label) → now (seen .entry) ≡ seenFrom 14 0 labels → r ≡ any (lacks labels) (2 ∷ 3 ∷ 4 ∷ 5 ∷ [])) ⌝ }
+{
+    if seen[2] == 0 {
+        return true;
+    }
+    if seen[3] == 0 {
+        return true;
+    }
+    if seen[4] == 0 {
+        return true;
+    }
+    seen[5] == 0
+}
