@@ -2,3 +2,4 @@
 pub mod StepLaws
 pub mod ShapeLaws
 pub mod FitLaws
+pub mod LeftLaws

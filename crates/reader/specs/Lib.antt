@@ -4,3 +4,4 @@ pub mod Regions
 pub mod Shown
 pub mod Progress
 pub mod Shows
+pub mod Left
