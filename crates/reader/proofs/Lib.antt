@@ -10,3 +10,4 @@ pub mod RegionRows
 pub mod JoinLaws
 pub mod SeenLaws
 pub mod ValueLaws
+pub mod LeftLaws

@@ -6,3 +6,4 @@ pub mod Progress
 pub mod Shows
 pub mod Keyed
 pub mod Values
+pub mod Left
