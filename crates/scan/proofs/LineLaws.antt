@@ -11,7 +11,7 @@ use borrow.Author.Tests.{eq-eqb, ne-eqb}
 use Rattle.lists.proofs.Bools.{and-left-false, and-right-false}
 use Rattle.format.specs.Bytes.{Bytes, lineLen, headIs, dollar, strip}
 use Rattle.lists.specs.Lists.{span}
-use Rattle.lists.proofs.ListLaws.{span-within}
+use Rattle.lists.proofs.ListLaws.{span-le, span-within}
 use Rattle.format.proofs.CutLaws.{lineLen-le, lineLen-pos}
 use Rattle.format.proofs.ByteLaws.{strip-two, strip-on, strip-take, strip-le}
 use Rattle.scan.specs.Cuts.{LineEnd, RunEnd, comment, Uncommented}
@@ -23,11 +23,12 @@ ends s at r e = record {
   low = omega arith;
   more = λ h. let k : 0 < length (drop at s) = simp length-drop (omega arith) in omega (arith, lineLen-pos (drop at s) k);
   high = λ h. omega (arith, lineLen-le (drop at s), length-drop at s);
+  reach = omega (arith, lineLen-le (drop at s), length-drop at s);
 }
 
 -- THE END OF A RUN
 pub runs : (p : ℕ → Bool) (s : Bytes) (at r : ℕ) → r ≡ at + span p (drop at s) → RunEnd p s at r
-runs p s at r e = record { is = e; low = omega arith; high = λ h. omega (arith, span-within p s at h) }
+runs p s at r e = record { is = e; low = omega arith; high = λ h. omega (arith, span-within p s at h); reach = omega (arith, span-le p (drop at s), length-drop at s) }
 
 -- THE COMMENT'S START
 module _ (s : Bytes) (i : ℕ) where

@@ -10,7 +10,7 @@ use lib.Seq.{take-nil, getD-drop}
 use lib.Dec.{leb}
 use borrow.Author.Tests.{leb-true, leb-false}
 use Rattle.lists.specs.Lists.{span}
-use Rattle.lists.proofs.ListLaws.{span-within, span-stops, span-end, span-in}
+use Rattle.lists.proofs.ListLaws.{span-le, span-within, span-stops, span-end, span-in}
 use Rattle.format.specs.Bytes.{Bytes, gap, ink, fields}
 use Rattle.format.proofs.FieldLaws.{fields-at-lead, fields-at-word, fields-at-end}
 use Rattle.scan.specs.declared.fields.Field.{Field}
@@ -35,6 +35,7 @@ module _ (s : Bytes) (at : ℕ) (r : Field) (p : r .from ≡ at + span gap (drop
         low = omega arith;
         order = omega arith;
         high = λ k. omega (arith, span-within gap s at k);
+        reach = omega (arith, span-le gap (drop at s), length-drop at s);
         is = rw (e, drop-of-length-le s h) (take-nil (r .to - r .from));
         rest = rw (e, z) (fields-at-end s (r .from) h);
         none = λ k. e;
@@ -49,6 +50,7 @@ module _ (s : Bytes) (at : ℕ) (r : Field) (p : r .from ≡ at + span gap (drop
         low = omega arith;
         order = omega arith;
         high = λ l. omega (arith, span-within ink s (r .from) (omega arith));
+        reach = omega (arith, span-within ink s (r .from) (omega arith));
         is = sym (ap (λ (fs : List Bytes). getD fs 0 []) e);
         rest = sym (ap (λ (fs : List Bytes). drop 1 fs) e);
         none = λ l. absurd (omega arith);

@@ -1,5 +1,6 @@
--- Where a line, a run of bytes and what stands before a comment end: document 01, "Lines and labels". Assumes nothing.
-use Prim.Native.Nat.{ℕ, _+_, _≤_, _<_}
+-- Where a line, a run of bytes and what stands before a comment end: document 01, "Lines and labels". `reach` is `high` as one sum,
+-- which a caller's arithmetic reads unasked. Assumes nothing.
+use Prim.Native.Nat.{ℕ, _+_, _-_, _≤_, _<_}
 use mathlib.Core.Path.{_≡_}
 use mathlib.Core.Bool.{Bool, false, _&&_}
 use mathlib.Core.List.{[], _∷_}
@@ -13,12 +14,14 @@ pub record LineEnd (s : Bytes) (at r : ℕ) : Type 0 where
   pub low : at ≤ r
   pub more : at < length s → at < r
   pub high : at ≤ length s → r ≤ length s
+  pub reach : r ≤ length s + (at - length s)
 
 -- r is where the run of bytes that pass a test ends, from `at` on
 pub record RunEnd (p : ℕ → Bool) (s : Bytes) (at r : ℕ) : Type 0 where
   pub is : r ≡ at + span p (drop at s)
   pub low : at ≤ r
   pub high : at ≤ length s → r ≤ length s
+  pub reach : r ≤ length s + (at - length s)
 
 -- whether `$$` stands in front
 abbrev pub comment : Bytes → Bool
