@@ -1,0 +1,4 @@
+-- The laws of this crate, file by file. Assumes nothing.
+pub mod SkipLaws
+pub mod StepLaws
+pub mod NameLaws

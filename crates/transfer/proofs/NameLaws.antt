@@ -1,0 +1,140 @@
+-- The name to show, as the code comes to it: document 01, "The name to show is a part of the block, its title, or the caller's stand-in bytes where the title is
+-- empty or the first line is no TITLE line." Assumes nothing.
+use Prim.Native.Nat.{ℕ, _+_, _-_, _≤_, _<_}
+use mathlib.Core.Path.{_≡_, refl, sym, ap, _∙_}
+use mathlib.Core.Bool.{Bool, true, false}
+use mathlib.Core.List.{List, [], _∷_, _++_}
+use native.Mathlib.Omega.{arith}
+use lib.ListN.{length, take, drop, length-append, length-drop, take-append-drop, drop-of-length-le}
+use lib.Dec.{ltb}
+use lib.Seq.{take-nil, length-take-le, drop-append-le}
+use borrow.Author.Tests.{ltb-true, ltb-false}
+use Rattle.lists.specs.Lists.{concat}
+use Rattle.lists.proofs.Bools.{torn}
+use Rattle.lists.proofs.PartLaws.{concat-cons, take-past}
+use Rattle.format.specs.Bytes.{Bytes, trim, isLabel, cut, lineLen}
+use Rattle.format.specs.Labels.{lineOf, titleLine}
+use Rattle.format.specs.Walking.{untilLabel, valueOf, titleBy, orElse, nameOf}
+use Rattle.format.proofs.CutLaws.{cut-nil, cut-at, concat-cut, lineLen-le}
+use Rattle.format.proofs.WalkLaws.{plain-no-title}
+use Rattle.transfer.specs.Skipping.{skipped}
+use Rattle.transfer.proofs.SkipLaws.{skip-on}
+
+-- WHERE A TEXT ENDS: at the first label line
+module _ (l : Bytes) (ls : List Bytes) where
+  until-label : isLabel l ≡ true → untilLabel (l ∷ ls) ≡ []
+  unfolding untilLabel
+  until-label e = rw (e, untilLabel)
+
+  until-plain : isLabel l ≡ false → untilLabel (l ∷ ls) ≡ l ++ untilLabel ls
+  unfolding untilLabel
+  until-plain e = rw (e, untilLabel)
+
+until-nil : untilLabel [] ≡ []
+unfolding untilLabel
+until-nil = refl
+
+-- the place where it ends, from a place and the lines there
+abbrev pub textTo : (at : ℕ) → List Bytes → ℕ
+textTo at ls = at + length (untilLabel ls)
+
+pub text-passes : (at : ℕ) (l : Bytes) (ls : List Bytes) → isLabel l ≡ false → textTo at (l ∷ ls) ≡ textTo (at + length l) ls
+text-passes at l ls e = omega (arith, ap length (until-plain l ls e), length-append l (untilLabel ls))
+
+module _ (s : Bytes) (at : ℕ) where
+  pub text-skip : (r : ℕ) → r ≡ at + skipped true (drop at s) → textTo at (cut (drop at s)) ≡ textTo r (cut (drop r s))
+  text-skip r e = skip-on textTo text-passes s at r e
+
+  pub text-end : length s ≤ at → textTo at (cut (drop at s)) ≡ at
+  text-end h =
+      let q : cut (drop at s) ≡ [] = ap cut (drop-of-length-le s h) ∙ cut-nil in
+      omega (arith, ap length (ap untilLabel q ∙ until-nil))
+
+  module _ (e : ℕ) (h : at < length s) (q : e ≡ at + lineLen (drop at s)) where
+    lines-are : cut (drop at s) ≡ take (e - at) (drop at s) ∷ cut (drop e s)
+    lines-are =
+        let n : lineLen (drop at s) ≡ e - at = omega arith in
+        cut-at s at h ∙ ap (λ (k : ℕ). take k (drop at s) ∷ cut (drop (at + lineLen (drop at s)) s)) n ∙ ap (λ (k : ℕ). take (e - at) (drop at s) ∷ cut (drop k s)) (sym q)
+
+    pub text-hit : isLabel (take (e - at) (drop at s)) ≡ true → textTo at (cut (drop at s)) ≡ at
+    text-hit f = omega (arith, ap length (ap untilLabel lines-are ∙ until-label _ _ f))
+
+    pub text-on : isLabel (take (e - at) (drop at s)) ≡ false → textTo at (cut (drop at s)) ≡ textTo e (cut (drop e s))
+    text-on f =
+        let k : e - at ≤ length (drop at s) = omega (arith, lineLen-le (drop at s)) in
+        let m : at + length (take (e - at) (drop at s)) ≡ e = omega (arith, length-take-le (e - at) (drop at s) k) in
+        ap (textTo at) lines-are ∙ text-passes at (take (e - at) (drop at s)) (cut (drop e s)) f ∙ ap (λ (n : ℕ). textTo n (cut (drop e s))) m
+
+-- a text is the bytes up to where it ends
+until-take : (ls : List Bytes) → untilLabel ls ≡ take (length (untilLabel ls)) (concat ls)
+until-take [] = until-nil ∙ sym (ap (λ (n : ℕ). take n (concat [])) (ap length until-nil))
+until-take (l ∷ ls) = by (isLabel l) refl (until-take ls)
+  where
+    by : (t : Bool) → isLabel l ≡ t → untilLabel ls ≡ take (length (untilLabel ls)) (concat ls) → untilLabel (l ∷ ls) ≡ take (length (untilLabel (l ∷ ls))) (concat (l ∷ ls))
+    by true e ih = rw (until-label l ls e)
+    by false e ih =
+        let n : ℕ = length (untilLabel ls) in
+        let k : length l + n - length l ≡ n = omega arith in
+        let q : take (length l + n) (l ++ concat ls) ≡ l ++ take n (concat ls) = take-past (length l + n) l (concat ls) (omega arith) ∙ ap (λ (i : ℕ). l ++ take i (concat ls)) k in
+        rw (until-plain l ls e, length-append l (untilLabel ls), concat-cons l ls, q) (ap (λ (r : Bytes). l ++ r) ih)
+
+pub text-take : (s : Bytes) → take (length (untilLabel (cut s))) s ≡ untilLabel (cut s)
+text-take s = sym (until-take (cut s) ∙ ap (take (length (untilLabel (cut s)))) (concat-cut s))
+
+-- a part of a line and what stands behind the line
+pub slice-join : (b : Bytes) (from e to : ℕ) → from ≤ e → e ≤ to → e ≤ length b → take (to - from) (drop from b) ≡ drop from (take e b) ++ take (to - e) (drop e b)
+slice-join b from e to h k l =
+    let n : length (take e b) ≡ e = length-take-le e b l in
+    let m : length (drop from (take e b)) ≡ e - from = length-drop from (take e b) ∙ ap (λ (i : ℕ). i - from) n in
+    let r : to - from - length (drop from (take e b)) ≡ to - e = omega arith in
+    ap (λ (x : Bytes). take (to - from) (drop from x)) (sym (take-append-drop e b))
+    ∙ ap (take (to - from)) (drop-append-le from (take e b) (drop e b) (omega arith))
+    ∙ take-past (to - from) (drop from (take e b)) (drop e b) (omega arith)
+    ∙ ap (λ (i : ℕ). drop from (take e b) ++ take i (drop e b)) r
+
+-- THE NAME
+module _ (b w : Bytes) (e : ℕ) (q : e ≡ 0 + lineLen (drop 0 b)) where
+  name-of : (l : Bytes) (ls : List Bytes) (t : Bool) → cut b ≡ l ∷ ls → titleLine l ≡ t → nameOf b w ≡ orElse (titleBy t l ls) w
+  unfolding nameOf
+  name-of l ls t f g = rw (f, g)
+
+  none-cut : length b ≤ 0 → nameOf b w ≡ w
+  unfolding nameOf
+  none-cut h = let f : cut b ≡ [] = ap cut (drop-of-length-le b {i = 0} h) ∙ cut-nil in rw f
+
+  -- "the first line is no TITLE line"
+  pub name-other : titleLine (take (e - 0) (drop 0 b)) ≡ false → nameOf b w ≡ w
+  name-other t = by (ltb 0 (length b)) refl
+    where
+      by : (more : Bool) → ltb 0 (length b) ≡ more → nameOf b w ≡ w
+      by true m = name-of _ _ false (lines-are b 0 e (ltb-true 0 (length b) m) q) t
+      by false m = none-cut (ltb-false 0 (length b) m)
+
+  module _ (t : titleLine (take (e - 0) (drop 0 b)) ≡ true) where
+    some-line : 0 < length b
+    some-line = by b t
+      where
+        by : (s : Bytes) → titleLine (take (e - 0) s) ≡ true → 0 < length s
+        by [] f = torn (titleLine (take (e - 0) [])) f (plain-no-title (take (e - 0) []) (ap isLabel (take-nil (e - 0))))
+        by (x ∷ s) f = omega arith
+
+    pub name-title : (from to : ℕ) → from ≤ e → drop from (take (e - 0) (drop 0 b)) ≡ valueOf (lineOf (take (e - 0) (drop 0 b))) → to ≡ textTo e (cut (drop e b))
+        → nameOf b w ≡ orElse (trim (take (to - from) (drop from b))) w
+    name-title from to h v x =
+        let k : e ≤ length b = omega (arith, lineLen-le b) in
+        let m : to - e ≡ length (untilLabel (cut (drop e b))) = omega arith in
+        let z : e - 0 ≡ e = omega arith in
+        let u : take (to - e) (drop e b) ≡ untilLabel (cut (drop e b)) = ap (λ (i : ℕ). take i (drop e b)) m ∙ text-take (drop e b) in
+        let y : drop from (take e b) ≡ valueOf (lineOf (take (e - 0) (drop 0 b))) = ap (λ (i : ℕ). drop from (take i b)) (sym z) ∙ v in
+        name-of _ _ true (lines-are b 0 e some-line q) t
+        ∙ ap (λ (r : Bytes). orElse (trim r) w)
+        (sym (slice-join b from e to h (omega arith) k ∙ ap (λ (r : Bytes). r ++ take (to - e) (drop e b)) y ∙ ap (λ (r : Bytes). valueOf (lineOf (take (e - 0) (drop 0 b))) ++ r) u))
+
+-- a part that is not empty is shown, an empty one is not
+pub or-some : (t w : Bytes) → 0 < length t → orElse t w ≡ t
+or-some [] w h = absurd (omega arith)
+or-some (x ∷ t) w h = refl
+
+pub or-none : (t w : Bytes) → length t ≡ 0 → orElse t w ≡ w
+or-none [] w h = refl
+or-none (x ∷ t) w h = absurd (omega arith)

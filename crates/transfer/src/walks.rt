@@ -1,0 +1,115 @@
+// The walk of a transfer file: document 01, "Walking a transfer file".
+ghost use mathlib.Core.Path.{_≡_};
+ghost use mathlib.Core.Bool.{true};
+ghost use Prim.Native.Nat.{_+_, _≤_, _<_};
+ghost use lib.ListN.{length, drop};
+ghost use Rattle.format.specs.Walking.{walkAt, inBlock, inStray, Found, piece, block, stray};
+ghost use Rattle.format.proofs.WalkLaws.{ahead};
+ghost use Rattle.transfer.specs.Codes.{Coded};
+ghost use Rattle.transfer.specs.Shown.{shown};
+ghost use Rattle.transfer.specs.Skipping.{skipped, hashAt};
+use scan::labels::LineKind;
+
+// What the walk finds: a block or a stray run, each from its first byte up to a place, or the end of the file, or a refusal.
+pub enum Walked {
+    Block(usize, usize),
+    Stray(usize, usize),
+    Finished,
+    Refused(u32),
+}
+
+// Whether a line that starts with `#` starts at `i`, where a line starts at `at`: a line feed, or the place it started from, stands before it.
+fn hash_at(file: &[u8], at: usize, i: usize) -> bool
+    requires { ⌜ (at ≤ i) × (i < length (now file)) ⌝ }
+    ensures { λ r. ⌜ r ≡ hashAt (now (file .entry)) at i ⌝ }
+{
+    if file[i] != 35 {
+        return false;
+    }
+    if i == at {
+        return true;
+    }
+    file[i - 1] == 10
+}
+
+// Where the first line from `at` on starts that starts with `#`; no other can be a label line, so no label is looked at before.
+fn skip_to_hash(file: &[u8], at: usize) -> usize
+    ensures { λ r. ⌜ r ≡ at + skipped true (drop at (now (file .entry))) ⌝ }
+{
+    let mut i = at;
+    while i < file.len() {
+        if hash_at(file, at, i) {
+            return i;
+        }
+        i += 1;
+    }
+    i
+}
+
+// The code of a line's label, 1 of TITLE, 13 of END: 0 where the line is no label line, has no `=`, or its label is skipped.
+fn label_code(line: &[u8]) -> u8
+    ensures { λ r. ⌜ Coded (now (line .entry)) r ⌝ }
+{
+    match scan::labels::line_kind(line) {
+        LineKind::Plain => 0,
+        LineKind::Unparted => 0,
+        LineKind::Labelled(code, _) => code,
+    }
+}
+
+// Where the block that started at `place` ends, from the line at `at` on: "It ends after its first END line, or before the next TITLE line, or with the file."
+fn block_end(file: &[u8], place: usize, at: usize) -> usize
+    ensures { λ r. ⌜ ahead (now (file .entry)) (inBlock place) at ≡ Found (piece block place r) ⌝ }
+{
+    let mut i = skip_to_hash(file, at);
+    while i < file.len() {
+        let end = scan::lines::line_end(file, i);
+        let code = label_code(&file[i..end]);
+        if code == 1 {
+            return i;
+        }
+        if code == 13 {
+            return end;
+        }
+        i = skip_to_hash(file, end);
+    }
+    i
+}
+
+// Where the stray run that started at `place` ends, from the line at `at` on: "stray runs, as long as they can be", up to a TITLE line.
+fn stray_end(file: &[u8], place: usize, at: usize) -> usize
+    ensures { λ r. ⌜ ahead (now (file .entry)) (inStray place) at ≡ Found (piece stray place r) ⌝ }
+{
+    let mut title = skip_to_hash(file, at);
+    while title < file.len() {
+        let next = scan::lines::line_end(file, title);
+        if label_code(&file[title..next]) == 1 {
+            return title;
+        }
+        title = skip_to_hash(file, next);
+    }
+    title
+}
+
+// The piece from `place` on. "The walk takes a file and a place, and treats the bytes from the place as a file, counting its answers in the whole one. Over
+// 16,777,216 bytes: refusal 31. Place beyond the end: 32. At the end: finished." "31 comes first."
+pub fn walk(file: &[u8], place: usize) -> Walked
+    ensures { λ r. ⌜ shown r ≡ walkAt (now (file .entry)) place ⌝ }
+{
+    if 16777216 < file.len() {
+        return Walked::Refused(31);
+    }
+    if file.len() < place {
+        return Walked::Refused(32);
+    }
+    if place == file.len() {
+        return Walked::Finished;
+    }
+    let end = scan::lines::line_end(file, place);
+    if label_code(&file[place..end]) == 1 {
+        let to = block_end(file, place, end);
+        return Walked::Block(place, to);
+    }
+    let to = stray_end(file, place, end);
+    Walked::Stray(place, to)
+}
