@@ -11,3 +11,5 @@ pub mod JoinLaws
 pub mod SeenLaws
 pub mod ValueLaws
 pub mod LeftLaws
+pub mod StrikeLaws
+pub mod TallyLaws
