@@ -11,11 +11,11 @@ use lib.Seq.{drop-cons, getD-set-same, getD-set-other, set-getD}
 use lib.Dec.{eqb}
 use borrow.Author.Tests.{eqb-true, eq-eqb, ne-eqb}
 use Rattle.lists.specs.Lists.{all}
-use Rattle.lists.proofs.Bools.{torn, and-right-false}
+use Rattle.lists.proofs.Bools.{torn, and-left-false, and-right-false}
 use Rattle.lists.proofs.ListLaws.{all-nil, all-parts, all-both}
 use Rattle.format.specs.Structure.{Isotope, isotopeOf, Entry, entry, sameIsotope, total}
 use Rattle.format.proofs.TotalLaws.{share, isotope-is, isotope-same, isotope-refl, total-nil, total-cons}
-use Rattle.reader.specs.Left.{byMass, heavyOf, leftOf, isZero, Blank, Adds, Takes, Counts}
+use Rattle.reader.specs.Left.{byMass, cellOf, heavyOf, leftOf, isZero, Blank, Adds, Takes, Counts, Says}
 
 -- ONE ENTRY
 pub share-one : (i : Isotope) (e : Entry) → total i (e ∷ []) ≡ share (sameIsotope i (e .kind)) (e .count)
@@ -37,7 +37,11 @@ total-sum i k a b = go (sameIsotope i k) refl
 pub total-none : (i k : Isotope) → total i (entry k 0 ∷ []) ≡ 0
 total-none i k = omega (arith, total-sum i k 0 0)
 
--- isotopes of another mass
+-- isotopes of another element, of another mass
+pub element-apart : (i : Isotope) (e m : ℕ) → (i .element ≡ e → ⊥) → sameIsotope i (isotopeOf e m) ≡ false
+unfolding sameIsotope
+element-apart i e m h = and-left-false (eqb (i .element) e) (eqb (i .mass) m) (ne-eqb (i .element) e h)
+
 pub mass-apart : (i : Isotope) (e m : ℕ) → (i .mass ≡ m → ⊥) → sameIsotope i (isotopeOf e m) ≡ false
 unfolding sameIsotope
 mass-apart i e m h = and-right-false (eqb (i .element) e) (eqb (i .mass) m) (ne-eqb (i .mass) m h)
@@ -80,10 +84,6 @@ heavy-cons i e m es ms = go (sameIsotope i (isotopeOf e m)) refl
     go : (t : Bool) → sameIsotope i (isotopeOf e m) ≡ t → heavyOf i (e ∷ es) (m ∷ ms) ≡ total i (entry (isotopeOf e m) 1 ∷ []) + heavyOf i es ms
     go true h = omega (arith, heavy-hit i e m es ms h, share-one i (entry (isotopeOf e m) 1) ∙ ap (λ (t : Bool). share t 1) h)
     go false h = omega (arith, heavy-miss i e m es ms h, total-other i (isotopeOf e m) 1 h)
-
--- what one cell holds for an isotope
-abbrev pub cellOf : Isotope → (e m : ℕ) → ℕ
-cellOf i e m = total i (entry (isotopeOf e m) 1 ∷ [])
 
 -- one that is written: what it held goes, what it holds comes
 pub heavy-set : (i : Isotope) (es ms : List ℕ) (j e m : ℕ) → j < length es → j < length ms →
@@ -145,8 +145,15 @@ module _ (cs es ms : List ℕ) where
       let z : total i (entry (isotopeOf e 0) (getD cs e 0 - n + n) ∷ []) ≡ total i (entry (isotopeOf e 0) (getD cs e 0) ∷ []) = ap (λ (v : ℕ). total i (entry (isotopeOf e 0) v ∷ [])) q in
       omega (arith, light-set e (getD cs e 0 - n) h i, total-sum i (isotopeOf e 0) (getD cs e 0 - n) n, z)
 
-  pub light-short : (e n : ℕ) (next : Isotope → ℕ) → getD cs e 0 < n → Takes (leftOf cs es ms) next (entry (isotopeOf e 0) n) false
-  light-short e n next h = omega (arith, left-light cs es ms (isotopeOf e 0) refl)
+  pub light-short : (e n : ℕ) → getD cs e 0 < n → Takes (leftOf cs es ms) (leftOf cs es ms) (entry (isotopeOf e 0) n) false
+  light-short e n h = omega (arith, left-light cs es ms (isotopeOf e 0) refl)
+
+  -- the same for a mass that is found to be 0
+  pub take-light : (e m n : ℕ) → m ≡ 0 → e < length cs → n ≤ getD cs e 0 → Takes (leftOf cs es ms) (leftOf (set cs e (getD cs e 0 - n)) es ms) (entry (isotopeOf e m) n) true
+  take-light e m n z h k = rw z (light-taken e n h k)
+
+  pub take-short : (e m n : ℕ) → m ≡ 0 → getD cs e 0 < n → Takes (leftOf cs es ms) (leftOf cs es ms) (entry (isotopeOf e m) n) false
+  take-short e m n z h = rw z (light-short e n h)
 
   -- of those with a mass
   pub heavy-added : (j e m : ℕ) → j < length es → j < length ms → getD ms j 0 ≡ 0 → 0 < m → Adds (leftOf cs es ms) (leftOf cs (set es j e) (set ms j m)) (entry (isotopeOf e m) 1)
@@ -160,8 +167,8 @@ module _ (cs es ms : List ℕ) where
       by-mass i
       (λ q. omega (arith, left-light cs es (set ms j 0) i q, left-light cs es ms i q, total-other i (isotopeOf (getD es j 0) (getD ms j 0)) 1 (mass-apart i (getD es j 0) (getD ms j 0) (λ r. omega arith))))
       (λ q.
-        let s : heavyOf i (set es j (getD es j 0)) (set ms j 0) ≡ heavyOf i es (set ms j 0) = ap (λ (l : List ℕ). heavyOf i l (set ms j 0)) (set-getD es j 0) in
-        omega (arith, left-heavy cs es (set ms j 0) i q, left-heavy cs es ms i q, heavy-set i es ms j (getD es j 0) 0 h k, s, cell-empty i (getD es j 0) q))
+      let s : heavyOf i (set es j (getD es j 0)) (set ms j 0) ≡ heavyOf i es (set ms j 0) = ap (λ (l : List ℕ). heavyOf i l (set ms j 0)) (set-getD es j 0) in
+      omega (arith, left-heavy cs es (set ms j 0) i q, left-heavy cs es ms i q, heavy-set i es ms j (getD es j 0) 0 h k, s, cell-empty i (getD es j 0) q))
 
   pub heavy-short : (k : Isotope) (n : ℕ) (next : Isotope → ℕ) → 0 < k .mass → heavyOf k es ms < n → Takes (leftOf cs es ms) next (entry k n) false
   heavy-short k n next p h = omega (arith, left-heavy cs es ms k p)
@@ -201,3 +208,10 @@ module _ (cs es ms : List ℕ) where
 
   pub masses-blank : length es ≡ length ms → Counts (leftOf cs es ms) [] → Blank ms
   masses-blank h f = heavy-none es ms h (λ i p. sym (left-heavy cs es ms i p) ∙ f i ∙ total-nil i)
+
+  pub count-left : all isZero cs ≡ false → Says false (Counts (leftOf cs es ms) [])
+  count-left h f = torn (all isZero cs) (blank-all cs (counts-blank f)) h
+
+  pub mass-left : all isZero cs ≡ true → length es ≡ length ms → (t : Bool) → t ≡ all isZero ms → Says t (Counts (leftOf cs es ms) [])
+  mass-left h l true e = left-none (all-blank cs h) (all-blank ms (sym e))
+  mass-left h l false e = λ f. torn (all isZero ms) (blank-all ms (masses-blank l f)) (sym e)

@@ -13,3 +13,5 @@ pub mod ValueLaws
 pub mod LeftLaws
 pub mod LaidLaws
 pub mod TurnLaws
+pub mod StrikeLaws
+pub mod TallyLaws

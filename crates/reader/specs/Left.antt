@@ -9,7 +9,7 @@ use lib.ListN.{getD}
 use lib.Dec.{eqb}
 use Rattle.lists.specs.Lists.{all}
 use Rattle.format.specs.Formula.{Counted as Told}
-use Rattle.format.specs.Structure.{Isotope, isotopeOf, Entry, sameIsotope, total}
+use Rattle.format.specs.Structure.{Isotope, isotopeOf, Entry, entry, sameIsotope, total}
 use Rattle.reader.specs.Progress.{entriesFrom, entryFine}
 
 -- Atoms that have a mass, each in one cell of two lists: how many are of an isotope. A mass of 0 is no atom.
@@ -25,6 +25,10 @@ byMass (suc m) light heavy = heavy
 
 unfoldable pub leftOf : (counts elements masses : List ℕ) → Isotope → ℕ
 leftOf counts elements masses i = byMass (i .mass) (getD counts (i .element) 0) (heavyOf i elements masses)
+
+-- what one cell holds for an isotope
+abbrev pub cellOf : Isotope → (e m : ℕ) → ℕ
+cellOf i e m = total i (entry (isotopeOf e m) 1 ∷ [])
 
 abbrev pub isZero : ℕ → Bool
 isZero n = eqb n 0

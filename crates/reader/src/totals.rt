@@ -1,0 +1,132 @@
+// The formula against the atoms: document 01, "At END, for every element and mass, the formula's total over all fragments equals the atoms listed, with implied
+// hydrogens counted as hydrogen without mass." The atoms are tallied, each entry of the formula is taken from the tally, and nothing may be left. Atoms without
+// mass are counted by element; each atom with a mass has a cell of two lists, its element and its mass.
+ghost use mathlib.Core.Path.{_≡_};
+ghost use mathlib.Core.Bool.{true};
+ghost use mathlib.Core.List.{List, []};
+ghost use Prim.Native.Nat.{ℕ, _+_, _<_, _≤_};
+ghost use lib.ListN.{length, getD, set, drop};
+ghost use Rattle.lists.specs.Lists.{all};
+ghost use Rattle.format.specs.Structure.{Atom, Isotope, isotopeOf, entry, entriesOf, atomOk, total};
+ghost use Rattle.reader.specs.Regions.{kindsRegion};
+ghost use Rattle.reader.specs.Left.{leftOf, isZero, Blank, Adds, Takes, Counts, Says, cellOf};
+
+// So many more of an element without mass.
+fn add(counts: &mut [u32], element: u32, number: u32)
+    requires { ⌜ length (now counts) ≡ 104 ⌝ }
+    ensures { λ _. ⌜ (length (now (counts .exit)) ≡ 104) × (element ≤ 103 → number ≤ 15 → getD (now (counts .entry)) element 0 ≤ 9999 → now (counts .exit) ≡ set (now (counts .entry)) element (getD (now (counts .entry)) element 0 + number)) ⌝ }
+{
+    if 103 < element {
+        return;
+    }
+    if 15 < number {
+        return;
+    }
+    let before = counts[element as usize];
+    if 9999 < before {
+        return;
+    }
+    counts[element as usize] = before + number;
+}
+
+// The atom of a place is tallied.
+fn tally_atom(
+    place: usize,
+    element: u32,
+    mass: u32,
+    counts: &mut [u32],
+    elements: &mut [u32],
+    masses: &mut [u32],
+)
+    requires { ⌜ (place < 256) × (length (now counts) ≡ 104) × (length (now elements) ≡ 256) × (length (now masses) ≡ 256) ⌝ }
+    ensures { λ _. ⌜ (length (now (counts .exit)) ≡ 104) × (length (now (elements .exit)) ≡ 256) × (length (now (masses .exit)) ≡ 256) × ((n : ℕ) → place < n → getD (now (masses .exit)) n 0 ≡ getD (now (masses .entry)) n 0) × (element ≤ 103 → getD (now (counts .entry)) element 0 ≤ 9999 → getD (now (masses .entry)) place 0 ≡ 0 → Adds (leftOf (now (counts .entry)) (now (elements .entry)) (now (masses .entry))) (leftOf (now (counts .exit)) (now (elements .exit)) (now (masses .exit))) (entry (isotopeOf element mass) 1)) ⌝ }
+{
+    if mass == 0 {
+        add(counts, element, 1);
+        return;
+    }
+    elements[place] = element;
+    masses[place] = mass;
+}
+
+// Takes the atom of a cell where it is of an element and a mass: 1 where it is, else 0.
+fn strike_cell(place: usize, element: u32, mass: u32, elements: &[u32], masses: &mut [u32]) -> u32
+    requires { ⌜ (place < 256) × (length (now elements) ≡ 256) × (length (now masses) ≡ 256) ⌝ }
+    ensures { λ r. ⌜ (r ≤ 1) × (length (now (masses .exit)) ≡ 256) × (drop (place + 1) (now (masses .exit)) ≡ drop (place + 1) (now (masses .entry))) × (cellOf (isotopeOf element mass) (getD (now (elements .entry)) place 0) (getD (now (masses .entry)) place 0) ≡ r) × (0 < mass → (counts : List ℕ) → Takes (leftOf counts (now (elements .entry)) (now (masses .entry))) (leftOf counts (now (elements .entry)) (now (masses .exit))) (entry (isotopeOf element mass) r) true) ⌝ }
+{
+    if masses[place] != mass {
+        return 0;
+    }
+    if elements[place] != element {
+        return 0;
+    }
+    masses[place] = 0;
+    1
+}
+
+// Takes so many atoms of an element and a mass; no where there are fewer.
+fn strike(element: u32, mass: u32, count: u32, elements: &[u32], masses: &mut [u32]) -> bool
+    requires { ⌜ (length (now elements) ≡ 256) × (length (now masses) ≡ 256) ⌝ }
+    ensures { λ r. ⌜ (length (now (masses .exit)) ≡ 256) × (0 < mass → (counts : List ℕ) → Takes (leftOf counts (now (elements .entry)) (now (masses .entry))) (leftOf counts (now (elements .entry)) (now (masses .exit))) (entry (isotopeOf element mass) count) r) ⌝ }
+{
+    let mut owed = count;
+    let mut place = 0;
+    while place < 256 {
+        if owed == 0 {
+            return true;
+        }
+        owed = owed - strike_cell(place, element, mass, elements, masses);
+        place += 1;
+    }
+    owed == 0
+}
+
+// Takes so many of an element and a mass from what is left; no where there are fewer.
+fn take(
+    element: u32,
+    mass: u32,
+    count: u32,
+    counts: &mut [u32],
+    elements: &[u32],
+    masses: &mut [u32],
+) -> bool
+    requires { ⌜ (length (now counts) ≡ 104) × (length (now elements) ≡ 256) × (length (now masses) ≡ 256) ⌝ }
+    ensures { λ r. ⌜ (length (now (counts .exit)) ≡ 104) × (length (now (masses .exit)) ≡ 256) × (element ≤ 103 → Takes (leftOf (now (counts .entry)) (now (elements .entry)) (now (masses .entry))) (leftOf (now (counts .exit)) (now (elements .entry)) (now (masses .exit))) (entry (isotopeOf element mass) count) r) ⌝ }
+{
+    if mass != 0 {
+        return strike(element, mass, count, elements, masses);
+    }
+    if 103 < element {
+        return false;
+    }
+    let before = counts[element as usize];
+    if before < count {
+        return false;
+    }
+    counts[element as usize] = before - count;
+    true
+}
+
+// Whether every cell is 0.
+fn all_zero(cells: &[u32]) -> bool
+    ensures { λ r. ⌜ r ≡ all isZero (now (cells .entry)) ⌝ }
+{
+    let mut i = 0;
+    while i < cells.len() {
+        if cells[i] != 0 {
+            return false;
+        }
+        i += 1;
+    }
+    true
+}
+
+// Whether nothing is left.
+fn none_left(counts: &[u32], masses: &[u32]) -> bool
+    ensures { λ r. ⌜ ((elements : List ℕ) → length elements ≡ length (now (masses .entry)) → Says r (Counts (leftOf (now (counts .entry)) elements (now (masses .entry))) [])) ⌝ }
+{
+    if !all_zero(counts) {
+        return false;
+    }
+    all_zero(masses)
+}
