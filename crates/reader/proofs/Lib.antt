@@ -11,3 +11,4 @@ pub mod JoinLaws
 pub mod SeenLaws
 pub mod ValueLaws
 pub mod LeftLaws
+pub mod FillLaws
