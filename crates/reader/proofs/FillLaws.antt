@@ -7,10 +7,10 @@ use mathlib.Core.List.{List, [], _∷_, _++_, append-nil}
 use native.Mathlib.Nat.{add-zero, zero-add, suc-add, mul-suc, mul-zero, not-suc-le-zero, le-of-suc-le-suc}
 use native.Mathlib.Numerals.{add-one}
 use native.Mathlib.Omega.{arith}
-use lib.ListN.{length, getD, set, drop, replicate, length-append, length-replicate, length-set, drop-of-length-le}
+use lib.ListN.{length, getD, set, take, drop, replicate, length-append, length-replicate, length-set, drop-of-length-le}
 use lib.IntN.{ℤ, pos}
 use lib.Dec.{ltb}
-use lib.Seq.{sets}
+use lib.Seq.{sets, length-take-le}
 use mir.Facts.{toZ-pos}
 use mir.Syntax.{w32}
 use mir.Val.{toZ}
@@ -141,3 +141,7 @@ module _ (t : List ℕ) where
 -- the loop's end: as many rows as there are
 pub copied-all : (w : ℕ) (out : List ℕ → List ℤ) (size n m : ℕ) (t : List ℕ) (p : List ℤ) → n ≤ m → m ≤ n → p ≡ copied w out size n t → p ≡ copied w out size m t
 copied-all w out size n m t p h k e = let q : n ≡ m = omega arith in e ∙ ap (λ i. copied w out size i t) q
+
+-- THE FIRST PART OF THE TABLE, all zeros
+pub cleared : (t part : List ℤ) (n : ℕ) → n ≤ length t → part ≡ zeros (length (take n t)) → part ++ drop n t ≡ zeros n ++ drop n t
+cleared t part n h e = ap (λ l. l ++ drop n t) (e ∙ ap zeros (length-take-le n t h))

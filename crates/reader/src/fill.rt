@@ -1,8 +1,8 @@
 // Regions of the structure table: document 01, "The structure table" ("unused ones are 0"). Each function fills one region, whatever stood there.
 ghost use mathlib.Core.Path.{_≡_};
-ghost use mathlib.Core.List.{[], _∷_};
+ghost use mathlib.Core.List.{[], _∷_, _++_};
 ghost use Prim.Native.Nat.{_+_, _*_, _≤_, _<_};
-ghost use lib.ListN.{length};
+ghost use lib.ListN.{length, drop};
 ghost use Rattle.format.specs.Table.{zeros};
 ghost use Rattle.reader.specs.Published.{signedOf, placed, bondOut, centreOut, pairOut, copied};
 use format::Table;
@@ -95,7 +95,22 @@ pub fn fill_pairs(part: &mut [i32], region: &[u32], count: usize)
     while i < count {
         let key = region[2 * i];
         let payload = region[2 * i + 1];
-        put_four(part, 4 * i, key / 1024, key % 1024, payload / 256, payload % 256);
+        put_four(
+            part,
+            4 * i,
+            key / 1024,
+            key % 1024,
+            payload / 256,
+            payload % 256,
+        );
         i += 1;
     }
+}
+
+// "zero the 3,856 numbers"; those beyond stay.
+pub fn clear(table: &mut [i32])
+    requires { ⌜ 3856 ≤ length (now table) ⌝ }
+    ensures { λ _. ⌜ now (table .exit) ≡ zeros 3856 ++ drop 3856 (now (table .entry)) ⌝ }
+{
+    clear_part(&mut table[0..Table::SIZE]);
 }
