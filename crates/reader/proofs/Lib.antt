@@ -15,3 +15,4 @@ pub mod LaidLaws
 pub mod TurnLaws
 pub mod StrikeLaws
 pub mod TallyLaws
+pub mod FillLaws

@@ -7,3 +7,4 @@ pub mod Shows
 pub mod Keyed
 pub mod Values
 pub mod Left
+pub mod Published
