@@ -13,7 +13,7 @@ use Rattle.format.specs.Bytes.{Bytes, bytes, within, blank, gap, consTo, fields
 use Rattle.format.specs.Rows.{symOf, upper, lower}
 use Rattle.format.specs.Structure.{symbols, placeOf, letters}
 use Rattle.rows.specs.Spelling.{lowerAt, spelling, upTo}
-use Rattle.rows.proofs.PlaceLaws.{place-outside, place-take, up-to-in}
+use Rattle.rows.proofs.PlaceLaws.{place-outside, place-first, up-to-in}
 
 -- The symbols: an upper-case letter, or that and a lower-case one
 abbrev pub symbolic : Bytes → Bool
@@ -44,7 +44,7 @@ symbols-symbolic = refl
 
 -- the place among the first few
 among-first : (last p : ℕ) (w : Bytes) → p ≡ placeOf 1 w symbols → upTo last p ≡ placeOf 1 w (take last symbols)
-among-first last p w e = ap₂ upTo (sym (zero-add last)) e ∙ sym (place-take 0 last w symbols)
+among-first last p w e = ap₂ upTo (sym (zero-add last)) e ∙ sym (place-first 0 last w symbols)
 
 pub unspelt : (last : ℕ) (w : Bytes) → symbolic w ≡ false → 0 ≡ placeOf 1 w (take last symbols)
 unspelt last w f = sym (up-to-in last 0 (omega arith)) ∙ among-first last 0 w (sym (place-outside symbolic 1 w symbols symbols-symbolic f))

@@ -10,6 +10,7 @@ use Rattle.lists.specs.Lists.{sameBy}
 use Rattle.lists.proofs.Bools.{and-right-false}
 use Rattle.format.specs.Bytes.{Bytes, bytes, within, same}
 use Rattle.format.specs.Rows.{Sym, symOf}
+use Rattle.format.proofs.SymbolLaws.{isotope-deuterium, isotope-tritium, isotope-other}
 use Rattle.format.specs.Structure.{symbols, placeOf, letters, heavy, Isotope, isotopeOf, isotope, massOk}
 
 -- the letters against one
@@ -38,29 +39,21 @@ module _ (x : Sym) (d : ℕ) where
 
 -- THE CASES of an isotope
 module _ (k : ℕ) (x : Sym) where
-  is-d : same (letters x) (68 ∷ []) ≡ true → isotope k x ≡ heavy (x .caret) 2
-  unfolding isotope bytes
-  is-d e = rw (e, isotope)
-
-  is-t : same (letters x) (68 ∷ []) ≡ false → same (letters x) (84 ∷ []) ≡ true → isotope k x ≡ heavy (x .caret) 3
-  unfolding isotope bytes
-  is-t d e = rw (d, e, isotope)
-
-  is-other : same (letters x) (68 ∷ []) ≡ false → same (letters x) (84 ∷ []) ≡ false → isotope k x ≡ isotopeOf (placeOf 1 (letters x) (take k symbols)) (x .mass)
-  unfolding isotope bytes
-  is-other d t = rw (d, t, isotope)
-
   pub deuterium : x .second ≡ 0 → x .first ≡ 68 → isotope k x ≡ heavy (x .caret) 2
-  deuterium z e = is-d (letter-is x 68 z ∙ eq-eqb _ _ e)
+  unfolding bytes
+  deuterium z e = isotope-deuterium k x (letter-is x 68 z ∙ eq-eqb _ _ e)
 
   pub tritium : x .second ≡ 0 → (x .first ≡ 68 → ⊥) → x .first ≡ 84 → isotope k x ≡ heavy (x .caret) 3
-  tritium z n e = is-t (letter-is x 68 z ∙ ne-eqb _ _ n) (letter-is x 84 z ∙ eq-eqb _ _ e)
+  unfolding bytes
+  tritium z n e = isotope-tritium k x (letter-is x 68 z ∙ ne-eqb _ _ n) (letter-is x 84 z ∙ eq-eqb _ _ e)
 
   pub one-other : x .second ≡ 0 → (x .first ≡ 68 → ⊥) → (x .first ≡ 84 → ⊥) → isotope k x ≡ isotopeOf (placeOf 1 (letters x) (take k symbols)) (x .mass)
-  one-other z n m = is-other (letter-is x 68 z ∙ ne-eqb _ _ n) (letter-is x 84 z ∙ ne-eqb _ _ m)
+  unfolding bytes
+  one-other z n m = isotope-other k x (letter-is x 68 z ∙ ne-eqb _ _ n) (letter-is x 84 z ∙ ne-eqb _ _ m)
 
   pub two-other : (x .second ≡ 0 → ⊥) → isotope k x ≡ isotopeOf (placeOf 1 (letters x) (take k symbols)) (x .mass)
-  two-other n = is-other (letters-not x 68 n) (letters-not x 84 n)
+  unfolding bytes
+  two-other n = isotope-other k x (letters-not x 68 n) (letters-not x 84 n)
 
 -- THE CASES of a mass
 module _ (x : Sym) where

@@ -4,3 +4,9 @@ pub mod TableRule
 pub mod PlaceTable
 pub mod ElementLaws
 pub mod IsotopeLaws
+pub mod StepLaws
+pub mod MoveLaws
+pub mod RunLaws
+pub mod PassLaws
+pub mod VerdictLaws
+pub mod SumLaws

@@ -6,16 +6,10 @@ ghost use lib.ListN.{take};
 ghost use Rattle.format.specs.Rows.{symOf};
 ghost use Rattle.format.specs.Structure.{symbols, placeOf, letters, isotope, massOk, heavy};
 ghost use Rattle.rows.specs.Spelling.{spelling, upTo};
-ghost use Rattle.rows.specs.Shown.{markShown, isotopeShown};
+ghost use Rattle.scan.specs.ShownSymbols.{symOfMark};
+ghost use Rattle.rows.specs.Shown.{isotopeShown};
 use crate::places::PLACES;
-
-// A symbol as it is written: `^` and a mass, or none (false, 0); its letters, the second 0 where there is one.
-pub struct Mark {
-    pub caret: bool,
-    pub mass: u32,
-    pub first: u8,
-    pub second: u8,
-}
+use scan::symbols::Mark;
 
 // An element (0 unknown) and a mass (0 none).
 pub struct Isotope {
@@ -76,7 +70,7 @@ fn heavy_hydrogen(caret: bool, mass: u32) -> Isotope
 
 // The element, 1 to `last`, and the mass of a symbol; element 0 where it is unknown. "D and T are hydrogen of mass 2 and 3 and take no `^` (refused 12)."
 pub fn isotope_of(mark: Mark, last: u32) -> Isotope
-    ensures { λ r. ⌜ isotopeShown r ≡ isotope last (markShown mark) ⌝ }
+    ensures { λ r. ⌜ isotopeShown r ≡ isotope last (symOfMark mark) ⌝ }
 {
     let first = mark.first;
     let second = mark.second;
@@ -99,7 +93,7 @@ pub fn isotope_of(mark: Mark, last: u32) -> Isotope
 
 // Whether the mass is in its range: "mass 1 to 300".
 pub fn mass_fits(mark: Mark) -> bool
-    ensures { λ r. ⌜ r ≡ massOk (markShown mark) ⌝ }
+    ensures { λ r. ⌜ r ≡ massOk (symOfMark mark) ⌝ }
 {
     if !mark.caret {
         return true;

@@ -1,0 +1,179 @@
+// What MOLFORM's value says: its refusal, and the total of an isotope: document 01, "Rows", MOLFORM; "Refusal numbers".
+ghost use mathlib.Core.Path.{_≡_};
+ghost use mathlib.Core.List.{[], _∷_};
+ghost use Prim.Native.Nat.{_+_, min};
+ghost use Rattle.format.specs.Formula.{counted, finish, formulaShape};
+ghost use Rattle.format.specs.Structure.{isotopeOf, total};
+ghost use Rattle.scan.specs.ShownSymbols.{symOfMark};
+ghost use Rattle.rows.specs.Machine.{stateShown, Sized};
+ghost use Rattle.rows.specs.Verdicts.{lowest, entriesVerdict, formulaVerdict, refusalWith};
+ghost use Rattle.rows.specs.Totals.{entryOf, formulaTotal, totalWith};
+ghost use Rattle.rows.specs.Passes.{Carried};
+use crate::elements::isotope_of;
+use crate::elements::mass_fits;
+use crate::formula::Close;
+use crate::formula::Move;
+use crate::formula::State;
+use crate::formula::formula_end;
+use crate::formula::formula_step;
+use scan::symbols::Mark;
+
+// The machine's state, and a number of the entries told so far: their lowest refusal (0 none), or a sum.
+pub struct Pass {
+    pub state: State,
+    pub held: u32,
+}
+
+// The lower of two refusals; 0 is none.
+fn lower_refusal(one: u32, other: u32) -> u32
+    ensures { λ r. ⌜ r ≡ lowest one other ⌝ }
+{
+    if one == 0 {
+        return other;
+    }
+    if other == 0 {
+        return one;
+    }
+    if one < other { one } else { other }
+}
+
+// What is wrong with an entry: 10, "number outside its range", 12, "unknown symbol", or 0: "a symbol and an optional count 1 to 9,999".
+pub fn entry_verdict(mark: Mark, count: u32, last: u32) -> u32
+    ensures { λ r. ⌜ r ≡ entriesVerdict last (counted (symOfMark mark) count ∷ []) ⌝ }
+{
+    if !mass_fits(mark) {
+        return 10;
+    }
+    if count < 1 {
+        return 10;
+    }
+    if 9999 < count {
+        return 10;
+    }
+    let isotope = isotope_of(mark, last);
+    if isotope.element == 0 {
+        return 12;
+    }
+    0
+}
+
+// One byte more of the value.
+fn judged_step(pass: Pass, byte: u8, last: u32) -> Pass
+    ensures { λ r. ⌜ (Sized (pass .state) → Carried (refusalWith last) pass byte r) ⌝ }
+{
+    let state = pass.state;
+    let held = pass.held;
+    match formula_step(state, byte) {
+        Move::Still(next) => Pass { state: next, held },
+        Move::Tells(mark, count, next) => {
+            let refusal = entry_verdict(mark, count, last);
+            Pass {
+                state: next,
+                held: lower_refusal(held, refusal),
+            }
+        }
+    }
+}
+
+// The refusal at the value's end: 9 where it has no shape.
+fn judged_end(pass: Pass, last: u32) -> u32
+    ensures { λ r. ⌜ r ≡ refusalWith last (pass .held) (finish (stateShown (pass .state))) ⌝ }
+{
+    let state = pass.state;
+    let held = pass.held;
+    match formula_end(state) {
+        Close::Unshaped => lower_refusal(held, 9),
+        Close::Nothing => held,
+        Close::Last(mark, count) => lower_refusal(held, entry_verdict(mark, count, last)),
+    }
+}
+
+// The refusal of MOLFORM's value: 9, "row of the wrong shape", 10, "number outside its range", 12, "unknown symbol", or 0.
+pub fn formula_verdict(value: &[u8], last: u32) -> u32
+    ensures { λ r. ⌜ r ≡ formulaVerdict last (formulaShape (now (value .entry))) ⌝ }
+{
+    let mut pass = Pass {
+        state: State::Between(false),
+        held: 0,
+    };
+    let mut i = 0;
+    while i < value.len() {
+        pass = judged_step(pass, value[i], last);
+        i += 1;
+    }
+    judged_end(pass, last)
+}
+
+// A sum that stays at 1,000,000.
+fn summed(sum: u32, count: u32) -> u32
+    ensures { λ r. ⌜ r ≡ min 1000000 (sum + count) ⌝ }
+{
+    if 1000000 <= sum {
+        return 1000000;
+    }
+    if 1000000 - sum <= count {
+        return 1000000;
+    }
+    sum + count
+}
+
+// How many an entry adds to the total of an isotope.
+fn entry_total(mark: Mark, count: u32, element: u32, mass: u32, last: u32) -> u32
+    ensures { λ r. ⌜ r ≡ total (isotopeOf element mass) (entryOf last (counted (symOfMark mark) count) ∷ []) ⌝ }
+{
+    let isotope = isotope_of(mark, last);
+    if element != isotope.element {
+        return 0;
+    }
+    if mass != isotope.mass {
+        return 0;
+    }
+    count
+}
+
+// One byte more of the value.
+fn summed_step(pass: Pass, byte: u8, element: u32, mass: u32, last: u32) -> Pass
+    ensures { λ r. ⌜ (Sized (pass .state) → Carried (totalWith last (isotopeOf element mass)) pass byte r) ⌝ }
+{
+    let state = pass.state;
+    let held = pass.held;
+    match formula_step(state, byte) {
+        Move::Still(next) => Pass { state: next, held },
+        Move::Tells(mark, count, next) => {
+            let more = entry_total(mark, count, element, mass, last);
+            Pass {
+                state: next,
+                held: summed(held, more),
+            }
+        }
+    }
+}
+
+// The total at the value's end: 0 where it has no shape.
+fn summed_end(pass: Pass, element: u32, mass: u32, last: u32) -> u32
+    ensures { λ r. ⌜ r ≡ totalWith last (isotopeOf element mass) (pass .held) (finish (stateShown (pass .state))) ⌝ }
+{
+    let state = pass.state;
+    let held = pass.held;
+    match formula_end(state) {
+        Close::Unshaped => 0,
+        Close::Nothing => summed(held, 0),
+        Close::Last(mark, count) => summed(held, entry_total(mark, count, element, mass, last)),
+    }
+}
+
+// The total of an isotope over all fragments, counted up to 1,000,000: "for every element and mass, the formula's total over all fragments".
+pub fn formula_total(value: &[u8], element: u32, mass: u32, last: u32) -> u32
+    ensures { λ r. ⌜ r ≡ formulaTotal last (isotopeOf element mass) (formulaShape (now (value .entry))) ⌝ }
+{
+    let mut pass = Pass {
+        state: State::Between(false),
+        held: 0,
+    };
+    let mut i = 0;
+    while i < value.len() {
+        pass = summed_step(pass, value[i], element, mass, last);
+        i += 1;
+    }
+    summed_end(pass, element, mass, last)
+}
