@@ -2,3 +2,4 @@
 pub mod Steps
 pub mod Regions
 pub mod Shown
+pub mod Members
