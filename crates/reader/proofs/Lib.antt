@@ -16,3 +16,6 @@ pub mod TurnLaws
 pub mod StrikeLaws
 pub mod TallyLaws
 pub mod FillLaws
+pub mod MemberLaws
+pub mod SpreadLaws
+pub mod SpreadRowLaws

@@ -8,3 +8,4 @@ pub mod Keyed
 pub mod Values
 pub mod Left
 pub mod Published
+pub mod Members

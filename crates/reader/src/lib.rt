@@ -6,3 +6,4 @@ mod join; // join.rt: a row put to its place in a sorted list
 mod seen; // seen.rt: the labels seen so far and their order
 mod values; // values.rt: the values that stand on their label line
 mod totals; // totals.rt: the formula against the atoms
+mod spread; // spread.rt: CHARGE and RADICAL
