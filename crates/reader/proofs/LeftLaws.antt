@@ -160,8 +160,8 @@ module _ (cs es ms : List ℕ) where
       by-mass i
       (λ q. omega (arith, left-light cs es (set ms j 0) i q, left-light cs es ms i q, total-other i (isotopeOf (getD es j 0) (getD ms j 0)) 1 (mass-apart i (getD es j 0) (getD ms j 0) (λ r. omega arith))))
       (λ q.
-        let s : heavyOf i (set es j (getD es j 0)) (set ms j 0) ≡ heavyOf i es (set ms j 0) = ap (λ (l : List ℕ). heavyOf i l (set ms j 0)) (set-getD es j 0) in
-        omega (arith, left-heavy cs es (set ms j 0) i q, left-heavy cs es ms i q, heavy-set i es ms j (getD es j 0) 0 h k, s, cell-empty i (getD es j 0) q))
+      let s : heavyOf i (set es j (getD es j 0)) (set ms j 0) ≡ heavyOf i es (set ms j 0) = ap (λ (l : List ℕ). heavyOf i l (set ms j 0)) (set-getD es j 0) in
+      omega (arith, left-heavy cs es (set ms j 0) i q, left-heavy cs es ms i q, heavy-set i es ms j (getD es j 0) 0 h k, s, cell-empty i (getD es j 0) q))
 
   pub heavy-short : (k : Isotope) (n : ℕ) (next : Isotope → ℕ) → 0 < k .mass → heavyOf k es ms < n → Takes (leftOf cs es ms) next (entry k n) false
   heavy-short k n next p h = omega (arith, left-heavy cs es ms k p)

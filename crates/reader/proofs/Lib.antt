@@ -12,3 +12,4 @@ pub mod SeenLaws
 pub mod ValueLaws
 pub mod LeftLaws
 pub mod FillLaws
+pub mod HeaderLaws
