@@ -19,3 +19,4 @@ pub mod FillLaws
 pub mod MemberLaws
 pub mod SpreadLaws
 pub mod SpreadRowLaws
+pub mod HeaderLaws

@@ -8,7 +8,7 @@ ghost use Rattle.reader.specs.Published.{signedOf, placed, bondOut, cent
 use format::Table;
 
 // Every number of the region is 0.
-fn clear_part(part: &mut [i32])
+pub fn clear_part(part: &mut [i32])
     ensures { λ _. ⌜ now (part .exit) ≡ zeros (length (now (part .entry))) ⌝ }
 {
     let mut i = 0;
@@ -31,7 +31,7 @@ fn put(part: &mut [i32], at: usize, number: u32)
 }
 
 // Two numbers, one behind the other; then three, four and five.
-fn put_two(part: &mut [i32], at: usize, first: u32, second: u32)
+pub fn put_two(part: &mut [i32], at: usize, first: u32, second: u32)
     requires { ⌜ at + 2 ≤ length (now part) ⌝ }
     ensures { λ _. ⌜ now (part .exit) ≡ placed (now (part .entry)) at (signedOf first ∷ signedOf second ∷ []) ⌝ }
 {
@@ -39,7 +39,7 @@ fn put_two(part: &mut [i32], at: usize, first: u32, second: u32)
     put(part, at + 1, second);
 }
 
-fn put_three(part: &mut [i32], at: usize, first: u32, second: u32, third: u32)
+pub fn put_three(part: &mut [i32], at: usize, first: u32, second: u32, third: u32)
     requires { ⌜ at + 3 ≤ length (now part) ⌝ }
     ensures { λ _. ⌜ now (part .exit) ≡ placed (now (part .entry)) at (signedOf first ∷ signedOf second ∷ signedOf third ∷ []) ⌝ }
 {
@@ -47,7 +47,7 @@ fn put_three(part: &mut [i32], at: usize, first: u32, second: u32, third: u32)
     put_two(part, at + 1, second, third);
 }
 
-fn put_four(part: &mut [i32], at: usize, first: u32, second: u32, third: u32, fourth: u32)
+pub fn put_four(part: &mut [i32], at: usize, first: u32, second: u32, third: u32, fourth: u32)
     requires { ⌜ at + 4 ≤ length (now part) ⌝ }
     ensures { λ _. ⌜ now (part .exit) ≡ placed (now (part .entry)) at (signedOf first ∷ signedOf second ∷ signedOf third ∷ signedOf fourth ∷ []) ⌝ }
 {

@@ -1,6 +1,7 @@
 // Reading one block into a table: document 01, "Lines and labels", "Rows", "Refusal numbers".
 mod after; // after.rt: what a line leaves of its list
 mod fill; // fill.rt: the regions of the table
+mod header; // header.rt: the first sixteen numbers of the table
 mod progress; // progress.rt: what is known before a line
 mod join; // join.rt: a row put to its place in a sorted list
 mod seen; // seen.rt: the labels seen so far and their order
