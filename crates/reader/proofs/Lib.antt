@@ -8,3 +8,4 @@ pub mod GapLaws
 pub mod IndexLaws
 pub mod RegionRows
 pub mod JoinLaws
+pub mod KeyedLaws
