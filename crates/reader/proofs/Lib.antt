@@ -20,3 +20,4 @@ pub mod MemberLaws
 pub mod SpreadLaws
 pub mod SpreadRowLaws
 pub mod HeaderLaws
+pub mod KeyedLaws

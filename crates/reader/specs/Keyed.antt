@@ -3,12 +3,14 @@
 use Prim.Native.Nat.{ℕ, _+_, _-_, _*_, _≤_, _<_}
 use mathlib.Core.Path.{_≡_}
 use mathlib.Core.Bool.{Bool, true, false}
+use mathlib.Core.Option.{some}
 use mathlib.Core.List.{List, _∷_, _++_}
 use lib.ListN.{length, getD, take, drop}
+use Rattle.format.specs.Bytes.{Bytes, fields}
 use Rattle.format.specs.Labels.{ListOf, Bonds, Charges, Radicals, Centres, Pairs}
-use Rattle.format.specs.Rows.{Row}
+use Rattle.format.specs.Rows.{Row, rowShape}
 use Rattle.format.specs.Structure.{most, rowOk}
-use Rattle.reader.specs.Steps.{joinAfter}
+use Rattle.reader.specs.Steps.{joinAfter, rowAfter, rowStep}
 use Rattle.reader.specs.Regions.{keyOf, payloadOf, keyedRegion, Fits}
 use Rattle.reader.specs.Shown.{ShowsAfter}
 use Rattle.reader.specs.declared.after.RowAfter.{RowAfter}
@@ -49,3 +51,13 @@ JoinShows limit key payload dropping count before after a =
 -- an answer's count is within the limit
 abbrev pub KeptWithin : ℕ → RowAfter → Type 0
 KeptWithin limit a = (c : ℕ) → a ≡ Kept c → c ≤ limit
+
+-- of a row whose values are in hand: of every list by key with that limit, and every row of it with those atoms and that payload that a line can say
+abbrev pub RowShows : (most : ℕ) (ns : List ℕ) (payload : ℕ) (dropping : Bool) (n count : ℕ) (before after : List ℕ) → RowAfter → Type 0
+RowShows limit ns payload dropping n count before after a =
+    (l : ListOf) (fs : List Bytes) (rs : List Row) (r : Row) → keyed l ≡ true → most l ≡ limit → drops l ≡ dropping → rowShape l fs ≡ some r → r .atoms ≡ ns → payloadOf r ≡ payload
+    → length rs ≡ count → Fits l n rs → before ≡ keyedRegion l rs → ShowsAfter (keyedRegion l) after a (rowAfter l n rs (some r))
+
+-- of a line
+abbrev pub LineShows : ListOf → (n count : ℕ) (line before after : List ℕ) → RowAfter → Type 0
+LineShows l n count line before after a = (rs : List Row) → length rs ≡ count → Fits l n rs → before ≡ keyedRegion l rs → ShowsAfter (keyedRegion l) after a (rowStep l n rs (fields line))
