@@ -1,0 +1,91 @@
+/* Galebonnet: JCAMP-CS 3.7 blocks read, checked and walked. Every function here is proved to answer as its words say, for every input.
+ *
+ * Link with target/staticlib/libhost.a (`rt staticlib host` writes it). The library allocates nothing, has no globals, calls nothing and is reentrant.
+ *
+ * A slice is a pointer and a count of elements. Where the count is 0 the pointer must still not be null (any aligned address will do). Slices that a
+ * function writes to must not overlap the others.
+ */
+#ifndef GALEBONNET_H
+#define GALEBONNET_H
+
+#include <stddef.h>
+#include <stdint.h>
+
+#ifdef __cplusplus
+extern "C" {
+#endif
+
+#define GALEBONNET_VERSION "0.1.0"
+
+/* Limits. */
+#define GALEBONNET_TABLE 3856      /* numbers of a structure table */
+#define GALEBONNET_BLOCK 32768     /* bytes of a block at most */
+#define GALEBONNET_FILE 16777216   /* bytes of a transfer file at most */
+#define GALEBONNET_ATOMS 256
+#define GALEBONNET_BONDS 512
+#define GALEBONNET_CHARGES 64
+#define GALEBONNET_RADICALS 64
+#define GALEBONNET_CENTRES 128
+#define GALEBONNET_PAIRS 128
+
+/* Places in the table, counted from 0. Unused numbers are 0. */
+#define GALEBONNET_ATOM_COUNT 0
+#define GALEBONNET_BOND_COUNT 1
+#define GALEBONNET_CHARGE_COUNT 2
+#define GALEBONNET_RADICAL_COUNT 3
+#define GALEBONNET_CENTRE_COUNT 4
+#define GALEBONNET_PAIR_COUNT 5
+#define GALEBONNET_BLOCK_ID 6             /* 0: none */
+#define GALEBONNET_TEXT(i) (7 + 2 * (i))  /* start and length in the block of title 0, origin 1, owner 2; 0, 0 where empty */
+#define GALEBONNET_ATOM(i) (16 + 5 * (i)) /* element, mass (0 none), implied hydrogens, charge row, radical row (from 1; 0 none); atom 1 is i = 0 */
+#define GALEBONNET_BOND(i) (1296 + 3 * (i))   /* lower atom, higher atom, kind 1 to 5 for S, D, T, Q, A */
+#define GALEBONNET_CHARGE(i) (2832 + (i))     /* the charge spread over the atoms of row i + 1 */
+#define GALEBONNET_RADICAL(i) (2896 + (i))
+#define GALEBONNET_CENTRE(i) (2960 + 3 * (i)) /* atom, 1 P or 2 M, group byte (0 none) */
+#define GALEBONNET_PAIR(i) (3344 + 4 * (i))   /* lower atom, higher atom, 0, 1 P or 2 M, group byte */
+
+/* Refusal numbers. */
+enum galebonnet_refusal {
+    GALEBONNET_ACCEPTED = 0,
+    GALEBONNET_SHORT_TABLE = 1,      /* table shorter than 3,856 numbers; untouched */
+    GALEBONNET_LONG_BLOCK = 2,       /* block over 32,768 bytes */
+    GALEBONNET_BYTE = 3,             /* a byte not allowed */
+    GALEBONNET_NO_TITLE = 4,         /* first line is no TITLE line, or the block is empty */
+    GALEBONNET_NO_EQUALS = 5,        /* label line without `=` */
+    GALEBONNET_LABEL_ORDER = 6,      /* known label repeated or out of order */
+    GALEBONNET_VERSION_NUMBER = 7,   /* version not 3.7 */
+    GALEBONNET_RECORD_MISSING = 8,   /* JCAMP-CS, ORIGIN, OWNER, MOLFORM or an ATOMLIST with a row missing at END */
+    GALEBONNET_SHAPE = 9,            /* row of the wrong shape */
+    GALEBONNET_RANGE = 10,           /* number outside its range */
+    GALEBONNET_ATOM_NUMBER = 11,     /* atom number not the next one, or not listed */
+    GALEBONNET_SYMBOL = 12,          /* unknown symbol */
+    GALEBONNET_CLASH = 13,           /* clash */
+    GALEBONNET_LIST_FULL = 14,       /* one row more than its list holds */
+    GALEBONNET_FORMULA = 15,         /* formula and atoms differ */
+    GALEBONNET_NO_END = 16,          /* no END line */
+    GALEBONNET_AFTER_END = 17,       /* a line with a non-blank byte after END */
+    GALEBONNET_LONG_FILE = 31,       /* file over 16,777,216 bytes */
+    GALEBONNET_BEYOND = 32           /* place beyond the file's end */
+};
+
+/* Judges a block. Answers the refusal number times 2^32, plus the place: the first byte, counted in the block, of the line that is at fault; for 2 and 4 of an
+ * empty block 0, for 16 the block's length. Accepted is 0. Never answers 1. */
+uint64_t galebonnet_check(const uint8_t *block, size_t length);
+
+/* Reads a block into a table. The answer is galebonnet_check's, or 1 * 2^32 where the table has under 3,856 numbers, and then it is untouched. On acceptance the
+ * first 3,856 numbers are the block's table; on a refusal 2 to 17 they are 0. Numbers beyond them stay as they were. */
+uint64_t galebonnet_read(const uint8_t *block, size_t length, int32_t *table, size_t numbers);
+
+/* One piece of a transfer file, from a place on. Answers the kind times 2^32, plus the piece's end: 1 a block, 2 a stray run, both from the place to the end; 0
+ * finished (the place is the file's end); 31 the file is too long; 32 the place lies beyond the end; these three with end 0. Go on at the end until finished. */
+uint64_t galebonnet_walk(const uint8_t *file, size_t length, size_t place);
+
+/* The name to show for a block: the start of its title times 2^32, plus its length. 0: show a stand-in (the title is empty, or the first line is no TITLE line).
+ * For blocks of up to 2^32 - 1 bytes. */
+uint64_t galebonnet_name(const uint8_t *block, size_t length);
+
+#ifdef __cplusplus
+}
+#endif
+
+#endif
