@@ -2,3 +2,4 @@
 pub mod SkipLaws
 pub mod StepLaws
 pub mod NameLaws
+pub mod LabelTests
