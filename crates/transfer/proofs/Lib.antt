@@ -3,3 +3,4 @@ pub mod SkipLaws
 pub mod StepLaws
 pub mod NameLaws
 pub mod LabelTests
+pub mod OneAnswer

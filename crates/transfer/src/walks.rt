@@ -1,7 +1,5 @@
 // The walk of a transfer file: document 01, "Walking a transfer file".
 ghost use mathlib.Core.Path.{_≡_};
-ghost use Prim.Native.Nat.{_+_, _≤_, _<_};
-ghost use lib.ListN.{length, drop};
 ghost use Rattle.format.specs.Walking.{walkAt, inBlock, inStray, Found, piece, block, stray};
 ghost use Rattle.format.proofs.WalkLaws.{ahead};
 ghost use Rattle.transfer.specs.Codes.{Coded};
