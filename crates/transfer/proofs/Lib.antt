@@ -2,3 +2,5 @@
 pub mod SkipLaws
 pub mod StepLaws
 pub mod NameLaws
+pub mod LabelTests
+pub mod OneAnswer

@@ -11,13 +11,17 @@ use lib.Seq.{take-nil, length-take-le, drop-append-le}
 use borrow.Author.Tests.{ltb-true, ltb-false}
 use Rattle.lists.specs.Lists.{concat}
 use Rattle.lists.proofs.Bools.{torn}
-use Rattle.lists.proofs.PartLaws.{concat-cons, take-past}
+use Rattle.lists.proofs.PartLaws.{concat-cons, concat-length, take-past}
 use Rattle.format.specs.Bytes.{Bytes, trim, isLabel, cut, lineLen}
 use Rattle.format.specs.Labels.{lineOf, titleLine}
 use Rattle.format.specs.Walking.{untilLabel, valueOf, titleBy, orElse, nameOf}
 use Rattle.format.proofs.CutLaws.{cut-nil, cut-at, concat-cut, lineLen-le}
 use Rattle.format.proofs.WalkLaws.{plain-no-title}
+use Rattle.scan.specs.declared.fields.Field.{Field}
+use Rattle.scan.specs.NextFields.{fieldIn}
+use Rattle.scan.specs.Trims.{Trimmed}
 use Rattle.transfer.specs.Skipping.{skipped}
+use Rattle.transfer.specs.Texts.{textTo, TextEnd, ValueAt}
 use Rattle.transfer.proofs.SkipLaws.{skip-on}
 
 -- WHERE A TEXT ENDS: at the first label line
@@ -34,11 +38,8 @@ until-nil : untilLabel [] ≡ []
 unfolding untilLabel
 until-nil = refl
 
--- the place where it ends, from a place and the lines there
-abbrev pub textTo : (at : ℕ) → List Bytes → ℕ
-textTo at ls = at + length (untilLabel ls)
-
 pub text-passes : (at : ℕ) (l : Bytes) (ls : List Bytes) → isLabel l ≡ false → textTo at (l ∷ ls) ≡ textTo (at + length l) ls
+unfolding textTo
 text-passes at l ls e = omega (arith, ap length (until-plain l ls e), length-append l (untilLabel ls))
 
 module _ (s : Bytes) (at : ℕ) where
@@ -46,6 +47,7 @@ module _ (s : Bytes) (at : ℕ) where
   text-skip r e = skip-on textTo text-passes s at r e
 
   pub text-end : length s ≤ at → textTo at (cut (drop at s)) ≡ at
+  unfolding textTo
   text-end h =
       let q : cut (drop at s) ≡ [] = ap cut (drop-of-length-le s h) ∙ cut-nil in
       omega (arith, ap length (ap untilLabel q ∙ until-nil))
@@ -57,6 +59,7 @@ module _ (s : Bytes) (at : ℕ) where
         cut-at s at h ∙ ap (λ (k : ℕ). take k (drop at s) ∷ cut (drop (at + lineLen (drop at s)) s)) n ∙ ap (λ (k : ℕ). take (e - at) (drop at s) ∷ cut (drop k s)) (sym q)
 
     pub text-hit : isLabel (take (e - at) (drop at s)) ≡ true → textTo at (cut (drop at s)) ≡ at
+    unfolding textTo
     text-hit f = omega (arith, ap length (ap untilLabel lines-are ∙ until-label _ _ f))
 
     pub text-on : isLabel (take (e - at) (drop at s)) ≡ false → textTo at (cut (drop at s)) ≡ textTo e (cut (drop e s))
@@ -64,6 +67,9 @@ module _ (s : Bytes) (at : ℕ) where
         let k : e - at ≤ length (drop at s) = omega (arith, lineLen-le (drop at s)) in
         let m : at + length (take (e - at) (drop at s)) ≡ e = omega (arith, length-take-le (e - at) (drop at s) k) in
         ap (textTo at) lines-are ∙ text-passes at (take (e - at) (drop at s)) (cut (drop e s)) f ∙ ap (λ (n : ℕ). textTo n (cut (drop e s))) m
+
+    pub text-goes : isLabel (take (e - at) (drop at s)) ≡ false → (n : ℕ) → n ≡ e + skipped true (drop e s) → textTo at (cut (drop at s)) ≡ textTo n (cut (drop n s))
+    text-goes f n r = text-on f ∙ skip-on textTo text-passes s e n r
 
 -- a text is the bytes up to where it ends
 until-take : (ls : List Bytes) → untilLabel ls ≡ take (length (untilLabel ls)) (concat ls)
@@ -81,6 +87,22 @@ until-take (l ∷ ls) = by (isLabel l) refl (until-take ls)
 pub text-take : (s : Bytes) → take (length (untilLabel (cut s))) s ≡ untilLabel (cut s)
 text-take s = sym (until-take (cut s) ∙ ap (take (length (untilLabel (cut s)))) (concat-cut s))
 
+text-le : (ls : List Bytes) → length (untilLabel ls) ≤ length (concat ls)
+text-le [] = omega (arith, ap length until-nil)
+text-le (l ∷ ls) = by (isLabel l) refl (text-le ls)
+  where
+    by : (t : Bool) → isLabel l ≡ t → length (untilLabel ls) ≤ length (concat ls) → length (untilLabel (l ∷ ls)) ≤ length (concat (l ∷ ls))
+    by true e ih = omega (arith, ap length (until-label l ls e))
+    by false e ih = omega (arith, ap length (until-plain l ls e), length-append l (untilLabel ls), concat-length l ls)
+
+pub text-ends : (s : Bytes) (at r : ℕ) → r ≡ textTo at (cut (drop at s)) → TextEnd s at r
+unfolding textTo
+text-ends s at r e = record {
+  is = e;
+  low = omega arith;
+  high = λ h. omega (arith, text-le (cut (drop at s)), ap length (concat-cut (drop at s)), length-drop at s);
+}
+
 -- a part of a line and what stands behind the line
 pub slice-join : (b : Bytes) (from e to : ℕ) → from ≤ e → e ≤ to → e ≤ length b → take (to - from) (drop from b) ≡ drop from (take e b) ++ take (to - e) (drop e b)
 slice-join b from e to h k l =
@@ -91,6 +113,10 @@ slice-join b from e to h k l =
     ∙ ap (take (to - from)) (drop-append-le from (take e b) (drop e b) (omega arith))
     ∙ take-past (to - from) (drop from (take e b)) (drop e b) (omega arith)
     ∙ ap (λ (i : ℕ). drop from (take e b) ++ take i (drop e b)) r
+
+pub or-some : (t w : Bytes) → 0 < length t → orElse t w ≡ t
+or-some [] w h = absurd (omega arith)
+or-some (x ∷ t) w h = refl
 
 -- THE NAME
 module _ (b w : Bytes) (e : ℕ) (q : e ≡ 0 + lineLen (drop 0 b)) where
@@ -118,23 +144,37 @@ module _ (b w : Bytes) (e : ℕ) (q : e ≡ 0 + lineLen (drop 0 b)) where
         by [] f = torn (titleLine (take (e - 0) [])) f (plain-no-title (take (e - 0) []) (ap isLabel (take-nil (e - 0))))
         by (x ∷ s) f = omega arith
 
-    pub name-title : (from to : ℕ) → from ≤ e → drop from (take (e - 0) (drop 0 b)) ≡ valueOf (lineOf (take (e - 0) (drop 0 b))) → to ≡ textTo e (cut (drop e b))
-        → nameOf b w ≡ orElse (trim (take (to - from) (drop from b))) w
-    name-title from to h v x =
-        let k : e ≤ length b = omega (arith, lineLen-le b) in
-        let m : to - e ≡ length (untilLabel (cut (drop e b))) = omega arith in
-        let z : e - 0 ≡ e = omega arith in
-        let u : take (to - e) (drop e b) ≡ untilLabel (cut (drop e b)) = ap (λ (i : ℕ). take i (drop e b)) m ∙ text-take (drop e b) in
-        let y : drop from (take e b) ≡ valueOf (lineOf (take (e - 0) (drop 0 b))) = ap (λ (i : ℕ). drop from (take i b)) (sym z) ∙ v in
-        name-of _ _ true (lines-are b 0 e some-line q) t
-        ∙ ap (λ (r : Bytes). orElse (trim r) w)
-        (sym (slice-join b from e to h (omega arith) k ∙ ap (λ (r : Bytes). r ++ take (to - e) (drop e b)) y ∙ ap (λ (r : Bytes). valueOf (lineOf (take (e - 0) (drop 0 b))) ++ r) u))
+    module _ (from to : ℕ) (v : ValueAt (take (e - 0) (drop 0 b)) from) (x : TextEnd b e to) where
+      end-high : e ≤ length b
+      end-high = omega (arith, lineLen-le b)
 
--- a part that is not empty is shown, an empty one is not
-pub or-some : (t w : Bytes) → 0 < length t → orElse t w ≡ t
-or-some [] w h = absurd (omega arith)
-or-some (x ∷ t) w h = refl
+      line-size : length (take (e - 0) (drop 0 b)) ≡ e
+      line-size = let z : e - 0 ≡ e = omega arith in ap (λ (n : ℕ). length (take n b)) z ∙ length-take-le e b end-high
 
-pub or-none : (t w : Bytes) → length t ≡ 0 → orElse t w ≡ w
-or-none [] w h = refl
-or-none (x ∷ t) w h = absurd (omega arith)
+      pub from-high : from ≤ e
+      from-high = omega (arith, v .high, line-size)
+
+      name-trimmed : nameOf b w ≡ orElse (trim (take (to - from) (drop from b))) w
+      unfolding textTo
+      name-trimmed =
+          let m : to - e ≡ length (untilLabel (cut (drop e b))) = omega (arith, x .is) in
+          let z : e ≡ e - 0 = omega arith in
+          let u : take (to - e) (drop e b) ≡ untilLabel (cut (drop e b)) = ap (λ (i : ℕ). take i (drop e b)) m ∙ text-take (drop e b) in
+          let y : drop from (take e b) ≡ valueOf (lineOf (take (e - 0) (drop 0 b))) = ap (λ (i : ℕ). drop from (take i b)) z ∙ v .is in
+          name-of _ _ true (lines-are b 0 e some-line q) t
+          ∙ ap (λ (r : Bytes). orElse (trim r) w)
+          (sym (slice-join b from e to from-high (x .low) end-high ∙ ap (λ (r : Bytes). r ++ take (to - e) (drop e b)) y ∙ ap (λ (r : Bytes). valueOf (lineOf (take (e - 0) (drop 0 b))) ++ r) u))
+
+      module _ (kept : Field) (k : Trimmed (take (to - from) (drop from b)) kept) where
+        -- "where the title is empty"
+        pub name-empty : kept .from ≡ kept .to → nameOf b w ≡ w
+        name-empty f =
+            let n : kept .to - kept .from ≡ 0 = omega arith in
+            let p : trim (take (to - from) (drop from b)) ≡ [] = sym (k .is) ∙ ap (λ (i : ℕ). take i (drop (kept .from) (take (to - from) (drop from b)))) n in
+            name-trimmed ∙ ap (λ (r : Bytes). orElse r w) p
+
+        pub name-shown : (kept .from ≡ kept .to → ⊥) → fieldIn (take (to - from) (drop from b)) kept ≡ nameOf b w
+        name-shown f =
+            let text : Bytes = take (to - from) (drop from b) in
+            let n : length (fieldIn text kept) ≡ kept .to - kept .from = length-take-le (kept .to - kept .from) (drop (kept .from) text) (omega (arith, k .order, k .high, length-drop (kept .from) text)) in
+            sym (name-trimmed ∙ ap (λ (r : Bytes). orElse r w) (sym (k .is)) ∙ or-some (fieldIn text kept) w (omega (arith, k .order)))

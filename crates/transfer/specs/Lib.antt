@@ -2,3 +2,4 @@
 pub mod Codes
 pub mod Shown
 pub mod Skipping
+pub mod Texts

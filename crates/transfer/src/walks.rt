@@ -1,13 +1,9 @@
 // The walk of a transfer file: document 01, "Walking a transfer file".
 ghost use mathlib.Core.Path.{_≡_};
-ghost use mathlib.Core.Bool.{true};
-ghost use Prim.Native.Nat.{_+_, _≤_, _<_};
-ghost use lib.ListN.{length, drop};
 ghost use Rattle.format.specs.Walking.{walkAt, inBlock, inStray, Found, piece, block, stray};
 ghost use Rattle.format.proofs.WalkLaws.{ahead};
 ghost use Rattle.transfer.specs.Codes.{Coded};
 ghost use Rattle.transfer.specs.Shown.{shown};
-ghost use Rattle.transfer.specs.Skipping.{skipped, hashAt};
 use scan::labels::LineKind;
 
 // What the walk finds: a block or a stray run, each from its first byte up to a place, or the end of the file, or a refusal.
@@ -16,34 +12,6 @@ pub enum Walked {
     Stray(usize, usize),
     Finished,
     Refused(u32),
-}
-
-// Whether a line that starts with `#` starts at `i`, where a line starts at `at`: a line feed, or the place it started from, stands before it.
-fn hash_at(file: &[u8], at: usize, i: usize) -> bool
-    requires { ⌜ (at ≤ i) × (i < length (now file)) ⌝ }
-    ensures { λ r. ⌜ r ≡ hashAt (now (file .entry)) at i ⌝ }
-{
-    if file[i] != 35 {
-        return false;
-    }
-    if i == at {
-        return true;
-    }
-    file[i - 1] == 10
-}
-
-// Where the first line from `at` on starts that starts with `#`; no other can be a label line, so no label is looked at before.
-fn skip_to_hash(file: &[u8], at: usize) -> usize
-    ensures { λ r. ⌜ r ≡ at + skipped true (drop at (now (file .entry))) ⌝ }
-{
-    let mut i = at;
-    while i < file.len() {
-        if hash_at(file, at, i) {
-            return i;
-        }
-        i += 1;
-    }
-    i
 }
 
 // The code of a line's label, 1 of TITLE, 13 of END: 0 where the line is no label line, has no `=`, or its label is skipped.
@@ -61,7 +29,7 @@ fn label_code(line: &[u8]) -> u8
 fn block_end(file: &[u8], place: usize, at: usize) -> usize
     ensures { λ r. ⌜ ahead (now (file .entry)) (inBlock place) at ≡ Found (piece block place r) ⌝ }
 {
-    let mut i = skip_to_hash(file, at);
+    let mut i = crate::skips::skip_to_hash(file, at);
     while i < file.len() {
         let end = scan::lines::line_end(file, i);
         let code = label_code(&file[i..end]);
@@ -71,7 +39,7 @@ fn block_end(file: &[u8], place: usize, at: usize) -> usize
         if code == 13 {
             return end;
         }
-        i = skip_to_hash(file, end);
+        i = crate::skips::skip_to_hash(file, end);
     }
     i
 }
@@ -80,13 +48,13 @@ fn block_end(file: &[u8], place: usize, at: usize) -> usize
 fn stray_end(file: &[u8], place: usize, at: usize) -> usize
     ensures { λ r. ⌜ ahead (now (file .entry)) (inStray place) at ≡ Found (piece stray place r) ⌝ }
 {
-    let mut title = skip_to_hash(file, at);
+    let mut title = crate::skips::skip_to_hash(file, at);
     while title < file.len() {
         let next = scan::lines::line_end(file, title);
         if label_code(&file[title..next]) == 1 {
             return title;
         }
-        title = skip_to_hash(file, next);
+        title = crate::skips::skip_to_hash(file, next);
     }
     title
 }

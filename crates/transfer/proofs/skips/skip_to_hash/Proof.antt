@@ -7,8 +7,8 @@ use native.Mathlib.Omega.{arith}
 use lib.ListN.{length, drop}
 use Rattle.transfer.specs.Skipping.{skipped, freshAt}
 use Rattle.transfer.proofs.SkipLaws.{skip-start, skip-at-hit, skip-at-miss, skip-at-end}
-use Rattle.transfer.proofs.walks.skip_to_hash.Statement.{statement}
-use Rattle.transfer.proofs.walks.skip_to_hash.Tie as tie
+use Rattle.transfer.proofs.skips.skip_to_hash.Statement.{statement}
+use Rattle.transfer.proofs.skips.skip_to_hash.Tie as tie
 
 abbrev Inv-loop : tie.InvT-loop
 Inv-loop file at i₀ i = (at ≤ i) × (at + skipped true (drop at file) ≡ i + skipped (freshAt file at i) (drop i file))

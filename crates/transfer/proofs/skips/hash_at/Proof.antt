@@ -2,8 +2,8 @@
 use mathlib.Core.Path.{sym}
 use Rattle.transfer.proofs.SkipLaws.{hash-other, hash-start, hash-behind}
 use borrow.Author.Needs.{needs}
-use Rattle.transfer.proofs.walks.hash_at.Statement.{statement}
-use Rattle.transfer.proofs.walks.hash_at.Tie as tie
+use Rattle.transfer.proofs.skips.hash_at.Statement.{statement}
+use Rattle.transfer.proofs.skips.hash_at.Tie as tie
 
 shared-slice-read-if1 : tie.Need-shared-slice-read-if1
 shared-slice-read-if1 c = search needs
