@@ -22,3 +22,4 @@ pub mod SpreadRowLaws
 pub mod HeaderLaws
 pub mod KeyedLaws
 pub mod RecordLaws
+pub mod AtomLaws
