@@ -21,3 +21,5 @@ pub mod SpreadLaws
 pub mod SpreadRowLaws
 pub mod HeaderLaws
 pub mod KeyedLaws
+pub mod RecordLaws
+pub mod AtomLaws

@@ -1,9 +1,9 @@
 -- How the scratch's numbers stand in the structure table: document 01, "The structure table". Assumes nothing.
-use Prim.Native.Nat.{ℕ, _/_, _%_}
+use Prim.Native.Nat.{ℕ, zero, suc, _+_, _-_, _*_, _/_, _%_}
 use mathlib.Core.List.{List, [], _∷_, _++_}
 use mathlib.Core.Bool.{true, false}
 use lib.ListN.{getD}
-use lib.IntN.{ℤ, pos}
+use lib.IntN.{ℤ, pos, negℤ}
 use lib.Dec.{ltb}
 use lib.Seq.{sets}
 use Rattle.lists.specs.Lists.{concat, filled, rowsFrom}
@@ -47,3 +47,28 @@ headerOut block p =
     ++ (spanCells (spanOf (proseAt block (p .origin)))
     ++ (spanCells (spanOf (proseAt block (p .owner)))
     ++ (pos 0 ∷ pos 0 ∷ pos 0 ∷ []))))
+
+-- a charge or radical value from its code, -99 to 99 as 1 to 199
+unfoldable pub valueOf : ℕ → ℤ
+valueOf c = elim (ltb c 100) [ true ↦ negℤ (pos (100 - c)) | false ↦ signedOf (c - 100) ]
+
+abbrev pub valueOut : List ℕ → List ℤ
+valueOut t = valueOf (getD t 0 0) ∷ []
+
+-- the number of an atom's row in the sorted list, from its number as the rows came
+abbrev pub numberIn : (members order : List ℕ) → (i : ℕ) → ℕ
+numberIn members order i = getD order (getD members i 0) 0
+
+-- an atom's record: element, mass, hydrogens, charge row, radical row; i counts from 0
+abbrev pub atomOut : (kinds charges charge-order radicals radical-order : List ℕ) → (i : ℕ) → List ℤ
+atomOut kinds cs co rs ro i =
+    signedOf (getD kinds (3 * i) 0) ∷ signedOf (getD kinds (3 * i + 1) 0) ∷ signedOf (getD kinds (3 * i + 2) 0) ∷ signedOf (numberIn cs co i) ∷ signedOf (numberIn rs ro i) ∷ []
+
+-- the records of n indexes, one behind the other
+unfoldable pub gathered : (ℕ → List ℤ) → ℕ → List ℤ
+gathered out zero = []
+gathered out (suc n) = gathered out n ++ out n
+
+-- the atoms' region of the table
+unfoldable pub atomsOut : (kinds charges charge-order radicals radical-order : List ℕ) → (n : ℕ) → List ℤ
+atomsOut kinds cs co rs ro n = filled (pos 0) 1280 (gathered (atomOut kinds cs co rs ro) n)

@@ -19,7 +19,7 @@ pub fn clear_part(part: &mut [i32])
 }
 
 // A number of the scratch as one of the table.
-fn put(part: &mut [i32], at: usize, number: u32)
+pub fn put(part: &mut [i32], at: usize, number: u32)
     requires { ⌜ at < length (now part) ⌝ }
     ensures { λ _. ⌜ now (part .exit) ≡ placed (now (part .entry)) at (signedOf number ∷ []) ⌝ }
 {
@@ -53,6 +53,22 @@ pub fn put_four(part: &mut [i32], at: usize, first: u32, second: u32, third: u32
 {
     put(part, at, first);
     put_three(part, at + 1, second, third, fourth);
+}
+
+pub fn put_five(
+    part: &mut [i32],
+    at: usize,
+    first: u32,
+    second: u32,
+    third: u32,
+    fourth: u32,
+    fifth: u32,
+)
+    requires { ⌜ at + 5 ≤ length (now part) ⌝ }
+    ensures { λ _. ⌜ now (part .exit) ≡ placed (now (part .entry)) at (signedOf first ∷ signedOf second ∷ signedOf third ∷ signedOf fourth ∷ signedOf fifth ∷ []) ⌝ }
+{
+    put(part, at, first);
+    put_four(part, at + 1, second, third, fourth, fifth);
 }
 
 // The bonds' region: "lower atom, higher atom, kind".
