@@ -21,3 +21,4 @@ pub mod SpreadLaws
 pub mod SpreadRowLaws
 pub mod HeaderLaws
 pub mod KeyedLaws
+pub mod KindLaws
