@@ -1,19 +1,23 @@
 -- A list's line in the whole scratch: what the list's own region shows after it, the scratch and the progress show of the whole state. Document 01, "Rows", one
 -- law for the five lists and one for the atoms. Assumes nothing.
-use Prim.Native.Nat.{ℕ, _+_, _≤_}
+use Prim.Native.Nat.{ℕ, suc, _+_, _≤_}
 use mathlib.Core.Path.{_≡_, refl, sym, ap, _∙_}
-use mathlib.Core.List.{List}
+use mathlib.Core.Bool.{true}
+use mathlib.Core.Logic.{_⊎_, inl, inr}
+use mathlib.Core.List.{List, [], _∷_}
 use native.Mathlib.Omega.{arith}
-use lib.ListN.{length, take, drop, length-drop}
+use lib.ListN.{length, take, drop, length-drop, length-append}
 use lib.Seq.{length-take-le}
 use borrow.Rule.Slice.PartMut.{putMid, same-len-mid}
+use Rattle.lists.specs.Lists.{all}
+use Rattle.lists.proofs.ListLaws.{all-append-both, all-one}
 use Rattle.format.specs.Bytes.{Bytes}
 use Rattle.format.specs.Labels.{ListOf, Bonds, Charges, Radicals, Centres, Pairs}
 use Rattle.format.specs.Rows.{Row}
-use Rattle.format.specs.Structure.{Structure, rowsOf}
-use Rattle.format.specs.Reading.{State, withRows, rowLine}
-use Rattle.reader.specs.Steps.{After, kept, refused, rowStep}
-use Rattle.reader.specs.Regions.{Fits}
+use Rattle.format.specs.Structure.{Atom, Structure, rowsOf, atomOk}
+use Rattle.format.specs.Reading.{State, withRows, withAtoms, rowLine, atomLine}
+use Rattle.reader.specs.Steps.{After, kept, refused, rowStep, atomStep}
+use Rattle.reader.specs.Regions.{Fits, kindsRegion}
 use Rattle.reader.specs.Shown.{ShowsAfter}
 use Rattle.reader.specs.Progress.{laid, Counted, CountedTurn, Listed, countOf}
 use Rattle.reader.specs.Shows.{Shows, ShowsTurn}
@@ -22,9 +26,10 @@ use Rattle.reader.specs.declared.progress.Turn.{Turn}
 use Rattle.reader.specs.declared.progress.Turn.the-variants.{Go, Stop}
 use Rattle.reader.specs.declared.after.RowAfter.{RowAfter}
 use Rattle.reader.specs.declared.after.RowAfter.the-variants as R
-use Rattle.reader.proofs.StepLaws.{withKept, row-line}
-use Rattle.reader.proofs.FitLaws.{fits-kept}
-use Rattle.reader.proofs.LaidLaws.{sized, fromOf, sizeOf, shownAs, rowsPut, list-seated}
+use Rattle.reader.proofs.StepLaws.{withKept, withListed, row-line, atom-line}
+use Rattle.reader.proofs.FitLaws.{fits-kept, fits-more}
+use Rattle.reader.proofs.LaidLaws.{sized, fromOf, sizeOf, shownAs, rowsPut, atomsPut, list-seated, atoms-seated}
+use Rattle.reader.proofs.KindLaws.{AtomAdded, atom-kept}
 
 -- THE PROGRESS WITH ANOTHER COUNT
 abbrev pub withCount : ListOf → ℕ → Progress → Progress
@@ -173,3 +178,85 @@ module _ (l : ListOf) (p : Progress) (t region : List ℕ) (fs : List Bytes) (r 
     counted-turn l p q c (λ n f. bound n (e ∙ f)),
     λ k block at st h. rw (sym e) (rows-turn k block at st h c),
   )
+
+-- THE ATOMS
+abbrev pub withAtomCount : ℕ → Progress → Progress
+withAtomCount c p = record {
+  running = p .running;
+  top = p .top;
+  title = p .title;
+  origin = p .origin;
+  owner = p .owner;
+  formula = p .formula;
+  atoms = c;
+  bonds = p .bonds;
+  charges = p .charges;
+  radicals = p .radicals;
+  centres = p .centres;
+  pairs = p .pairs;
+  id = p .id;
+}
+
+abbrev pub afterAtom : Progress → RowAfter → Turn
+afterAtom p (R.Kept c) = Go (withAtomCount c p)
+afterAtom p (R.Stop n) = Stop n
+
+counted-atom : (p : Progress) (q : RowAfter) → Counted p → ((c : ℕ) → q ≡ R.Kept c → c ≤ 256) → CountedTurn p (afterAtom p q)
+counted-atom p (R.Kept c) h f = (record { atoms = f c refl; bonds = h .bonds; charges = h .charges; radicals = h .radicals; centres = h .centres; pairs = h .pairs }, refl)
+counted-atom p (R.Stop n) h f = tt
+
+-- one atom more, or none, leaves the other lists' rows fitting
+atom-fits : (k : ℕ) (listed next : List Atom) → ((next ≡ listed) ⊎ AtomAdded k listed next) → (l : ListOf) (rs : List Row) → Fits l (length listed) rs → Fits l (length next) rs
+atom-fits k listed next (inl e) l rs f = rw e f
+atom-fits k listed next (inr a) l rs f = let q : length next ≡ suc (length listed) = ap length (a .is) ∙ length-append listed (a .new ∷ []) ∙ omega arith in rw q (fits-more l (length listed) rs f)
+
+atom-kinds : (k : ℕ) (listed next : List Atom) → ((next ≡ listed) ⊎ AtomAdded k listed next) → all (atomOk k) listed ≡ true → all (atomOk k) next ≡ true
+atom-kinds k listed next (inl e) h = ap (all (atomOk k)) e ∙ h
+atom-kinds k listed next (inr a) h = ap (all (atomOk k)) (a .is) ∙ all-append-both (atomOk k) listed (a .new ∷ []) h (all-one (atomOk k) (a .new) ∙ a .fine)
+
+module _ (p : Progress) (t region : List ℕ) (fs : List Bytes) (r : RowAfter) (k : ℕ) (low : 1 ≤ k)
+    (sim : (listed : List Atom) → length listed ≡ p .atoms → take 768 (drop 0 t) ≡ kindsRegion listed → ShowsAfter kindsRegion region r (atomStep k listed fs)) where
+  module _ (block : Bytes) (at : ℕ) (st : State) (h : Shows k block at p t st) (c : Counted p) where
+    atoms-listed : (next : List Atom) → ((next ≡ st .body .atoms) ⊎ AtomAdded k (st .body .atoms) next) → Listed (withAtomCount (length next) p) (withAtoms next (st .body))
+    unfolding rowsOf
+    atoms-listed next a =
+        let old = h .holding .listed in
+        let fit : (l : ListOf) → Fits l (length next) (rowsOf l (st .body)) = λ l. atom-fits k (st .body .atoms) next a l (rowsOf l (st .body)) (rw (old .atoms) (old .fits l)) in
+        record {
+          atoms = refl;
+          counts = λ l. elim l [ Bonds ↦ old .counts Bonds | Charges ↦ old .counts Charges | Radicals ↦ old .counts Radicals | Centres ↦ old .counts Centres | Pairs ↦ old .counts Pairs ];
+          fits = λ l. elim l [ Bonds ↦ fit Bonds | Charges ↦ fit Charges | Radicals ↦ fit Radicals | Centres ↦ fit Centres | Pairs ↦ fit Pairs ];
+          id = old .id;
+        }
+
+    atoms-shown : (next : List Atom) → ((next ≡ st .body .atoms) ⊎ AtomAdded k (st .body .atoms) next) → region ≡ kindsRegion next → Shows k block at (withAtomCount (length next) p) (putMid 0 768 t region) (atomsPut st next)
+    atoms-shown next a e = record {
+      place = h .place;
+      running = h .running;
+      top = h .top;
+      holding = record {
+        scratch = ap (λ (s : List ℕ). putMid 0 768 s region) (h .holding .scratch) ∙ ap (putMid 0 768 (laid st)) e ∙ atoms-seated st (sized p st c (h .holding .listed)) .1 next;
+        texts = h .holding .texts;
+        formula = h .holding .formula;
+        formula-fine = h .holding .formula-fine;
+        kinds = atom-kinds k (st .body .atoms) next a (h .holding .kinds);
+        listed = atoms-listed next a;
+      };
+    }
+
+    pub atoms-turn : ShowsTurn k block at (afterAtom p r) (putMid 0 768 t region) (atomLine k st fs)
+    atoms-turn =
+        go (atomStep k (st .body .atoms) fs) refl
+        (sim (st .body .atoms) (h .holding .listed .atoms) (ap (λ (s : List ℕ). take 768 (drop 0 s)) (h .holding .scratch) ∙ atoms-seated st (sized p st c (h .holding .listed)) .0))
+      where
+        line-is : (a : After Atom) → atomStep k (st .body .atoms) fs ≡ a → atomLine k st fs ≡ withListed st a
+        line-is a e = atom-line k st fs ∙ ap (withListed st) e
+
+        go : (a : After Atom) → atomStep k (st .body .atoms) fs ≡ a → ShowsAfter kindsRegion region r a → ShowsTurn k block at (afterAtom p r) (putMid 0 768 t region) (atomLine k st fs)
+        go (kept next) e s = rw (line-is (kept next) e, s .0) (atoms-shown next (atom-kept k low (st .body .atoms) next fs e) (s .1))
+        go (refused n) e s = rw (line-is (refused n) e, s) refl
+
+  pub atoms-promise : (q : RowAfter) → r ≡ q → length t ≡ 2960 → Counted p → length region ≡ 768 → ((c : ℕ) → r ≡ R.Kept c → c ≤ 256) →
+      (length (putMid 0 768 t region) ≡ 2960) × CountedTurn p (afterAtom p q) × ((block : Bytes) (at : ℕ) (st : State) → Shows k block at p t st → ShowsTurn k block at (afterAtom p q) (putMid 0 768 t region) (atomLine k st fs))
+  atoms-promise q e long c size bound =
+      (put-long 0 768 t region long (omega arith) size, counted-atom p q c (λ n f. bound n (e ∙ f)), λ block at st h. rw (sym e) (atoms-turn block at st h c))
