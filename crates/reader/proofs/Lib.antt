@@ -23,3 +23,4 @@ pub mod HeaderLaws
 pub mod KeyedLaws
 pub mod RecordLaws
 pub mod AtomLaws
+pub mod AtomPartLaws
