@@ -23,6 +23,7 @@ use Rattle.format.specs.Rows.{Row, upper, lower}
 use Rattle.format.specs.Structure.{arity, most, ranging, ranged, groupOk, rowBefore, rowOk, Structure, rowsOf}
 use Rattle.format.specs.Reading.{finished}
 use Rattle.format.specs.Table.{width, rowCells, rowsPart}
+use Rattle.format.proofs.ByteLaws.{within-true}
 use Rattle.reader.specs.Regions.{keyOf, payloadOf, keyedCells, keyedRegion, Fits}
 use Rattle.reader.specs.Published.{signedOf, bondOut, centreOut, pairOut, copied}
 use Rattle.reader.proofs.FitLaws.{row-fits}
@@ -54,12 +55,8 @@ two-atoms (a ∷ []) h = absurd (omega arith)
 two-atoms (a ∷ b ∷ []) h = refl
 two-atoms (a ∷ b ∷ c ∷ ns) h = absurd (omega arith)
 
-pub within-high : (a b n : ℕ) → within a b n ≡ true → n ≤ b
-unfolding within
-within-high a b n e = leb-true n b (and-parts (leb a n) (leb n b) e .1)
-
 pub atom-small : (n : ℕ) (ns : List ℕ) (i : ℕ) → n ≤ 256 → all (within 1 n) ns ≡ true → i < length ns → getD ns i 0 < 1024
-atom-small n ns i h e k = let q : getD ns i 0 ≤ n = within-high 1 n (getD ns i 0) (all-at (within 1 n) 0 ns i e k) in omega arith
+atom-small n ns i h e k = let q : getD ns i 0 ≤ n = within-true 1 n (getD ns i 0) (all-at (within 1 n) 0 ns i e k) .1 in omega arith
 
 -- a natural value within its range
 pub record Natural (high : ℕ) (v : ℤ) : Type 0 where
@@ -68,7 +65,7 @@ pub record Natural (high : ℕ) (v : ℤ) : Type 0 where
 
 pub natural-of : (low high : ℕ) (v : ℤ) → ranging low high v ≡ true → Natural high v
 unfolding ranging
-natural-of low high (pos n) e = record { is = refl; small = within-high low high n e }
+natural-of low high (pos n) e = record { is = refl; small = within-true low high n e .1 }
 natural-of low high (negsuc n) e = torn false e refl
 
 pub group-small : (l : ListOf) (g : ℕ) → groupOk l g ≡ true → g < 256
@@ -76,8 +73,8 @@ unfolding groupOk
 group-small l g e = go (eqb g 0) refl
   where
     letter : (t : Bool) → upper g ≡ t → (t || lower g) ≡ true → g < 256
-    letter true p q = let k : g ≤ 90 = within-high 65 90 g p in omega arith
-    letter false p q = let k : g ≤ 122 = within-high 97 122 g q in omega arith
+    letter true p q = let k : g ≤ 90 = within-true 65 90 g p .1 in omega arith
+    letter false p q = let k : g ≤ 122 = within-true 97 122 g q .1 in omega arith
 
     other : (m : ListOf) → elim m [ Bonds ↦ false | Charges ↦ false | Radicals ↦ false | Centres ↦ upper g || lower g | Pairs ↦ upper g || lower g ] ≡ true → g < 256
     other Bonds q = torn false q refl

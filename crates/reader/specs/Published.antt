@@ -1,15 +1,20 @@
 -- How the scratch's numbers stand in the structure table: document 01, "The structure table". Assumes nothing.
-use Prim.Native.Nat.{ℕ, zero, suc, _+_, _-_, _*_, _/_, _%_}
+use Prim.Native.Nat.{ℕ, zero, suc, _+_, _-_, _*_, _/_, _%_, _≤_, _<_}
+use mathlib.Core.Path.{_≡_}
 use mathlib.Core.List.{List, [], _∷_, _++_}
 use mathlib.Core.Bool.{true, false}
-use lib.ListN.{getD}
+use lib.ListN.{length, getD}
 use lib.IntN.{ℤ, pos, negℤ}
 use lib.Dec.{ltb}
 use lib.Seq.{sets}
 use Rattle.lists.specs.Lists.{concat, filled, rowsFrom}
+use Rattle.lists.specs.Order.{sort}
 use Rattle.format.specs.Bytes.{Bytes}
+use Rattle.format.specs.Rows.{Row, row}
+use Rattle.format.specs.Structure.{rowBefore}
 use Rattle.format.specs.Reading.{spanOf}
-use Rattle.format.specs.Table.{spanCells}
+use Rattle.format.specs.Table.{spanCells, rowWith}
+use Rattle.reader.specs.Regions.{memberOf, coded}
 use Rattle.reader.specs.Progress.{proseAt}
 use Rattle.reader.specs.declared.progress.Progress.{Progress}
 
@@ -72,3 +77,8 @@ gathered out (suc n) = gathered out n ++ out n
 -- the atoms' region of the table
 unfoldable pub atomsOut : (kinds charges charge-order radicals radical-order : List ℕ) → (n : ℕ) → List ℤ
 atomsOut kinds cs co rs ro n = filled (pos 0) 1280 (gathered (atomOut kinds cs co rs ro) n)
+
+-- What a renumbering of charge or radical rows says: for each atom its row's number among the sorted rows, and the sorted rows' values as codes
+pub record Renumbers (rs : List Row) (order values : List ℕ) : Type 0 where
+  pub number : (n : ℕ) → 1 ≤ n → n ≤ 256 → getD order (memberOf n rs) 0 ≡ rowWith 1 n (sort rowBefore rs)
+  pub value : (i : ℕ) → i < length rs → getD values i 0 ≡ coded (getD (sort rowBefore rs) i (row [] (pos 0) 0) .value)
