@@ -2,4 +2,5 @@
 pub mod Worked
 pub mod Refused
 pub mod Stretches
+pub mod WayBackLines
 pub mod Demands
