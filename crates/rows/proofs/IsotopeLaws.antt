@@ -1,17 +1,17 @@
 -- The isotope of a symbol by its letters: D, T and all others; a mass in its range: document 01, "Rows", ATOMLIST. Assumes nothing.
 use Prim.Native.Nat.{ℕ, zero, suc, _≤_, _<_}
-use mathlib.Core.Path.{_≡_, refl, sym, ap, _∙_}
-use mathlib.Core.Bool.{Bool, true, false, _&&_, _||_, not}
-use mathlib.Core.List.{List, [], _∷_}
+use mathlib.Core.Path.{_≡_, refl, ap, _∙_}
+use mathlib.Core.Bool.{Bool, true, false, _&&_}
+use mathlib.Core.List.{[], _∷_}
 use lib.ListN.{take}
 use lib.Dec.{eqb, leb}
 use borrow.Author.Tests.{eq-eqb, ne-eqb, le-leb, lt-leb}
 use Rattle.lists.specs.Lists.{sameBy}
 use Rattle.lists.proofs.Bools.{and-right-false}
-use Rattle.format.specs.Bytes.{Bytes, bytes, within, same}
+use Rattle.format.specs.Bytes.{bytes, within, same}
 use Rattle.format.specs.Rows.{Sym, symOf}
 use Rattle.format.proofs.SymbolLaws.{isotope-deuterium, isotope-tritium, isotope-other}
-use Rattle.format.specs.Structure.{symbols, placeOf, letters, heavy, Isotope, isotopeOf, isotope, massOk}
+use Rattle.format.specs.Structure.{symbols, placeOf, letters, heavy, isotopeOf, isotope, massOk}
 
 -- the letters against one
 same-lone : (a d : ℕ) → same (a ∷ []) (d ∷ []) ≡ eqb a d

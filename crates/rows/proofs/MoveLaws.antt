@@ -1,14 +1,14 @@
 -- What the code's steps answer, as moves of the formula's machine: a step that stays, one that tells, a number that grows: document 01, "Rows", MOLFORM.
 -- Assumes nothing.
-use Prim.Native.Nat.{ℕ, suc, _+_, _-_, _*_, _^_, _≤_, _<_}
-use mathlib.Core.Path.{_≡_, refl, sym, ap, ap₂, _∙_, subst}
-use mathlib.Core.Bool.{Bool, true, false}
+use Prim.Native.Nat.{ℕ, _+_, _-_, _*_, _^_, _≤_, _<_}
+use mathlib.Core.Path.{_≡_, sym, ap₂, _∙_, subst}
+use mathlib.Core.Bool.{true}
 use native.Mathlib.Omega.{arith}
 use native.Mathlib.Numerals.{add-one}
-use Rattle.format.specs.Rows.{Sym, symOf, digit, upper, lower}
-use Rattle.format.specs.Formula.{Counted, counted, FState, inMass, inCount, Move, still, tells, fstep}
+use Rattle.format.specs.Rows.{digit}
+use Rattle.format.specs.Formula.{counted, inMass, inCount, Move, still, tells, fstep}
 use Rattle.scan.specs.ShownSymbols.{symOfMark}
-use Rattle.rows.specs.Machine.{stateShown, moveShown, Sized, Moved, Stepped}
+use Rattle.rows.specs.Machine.{stateShown, Sized, Moved, Stepped}
 use Rattle.scan.specs.declared.symbols.Mark.{Mark}
 use Rattle.rows.specs.declared.formula.State.{State}
 use Rattle.rows.specs.declared.formula.State.the-variants.{InMass, InCount}

@@ -3,15 +3,15 @@
 use Prim.Native.Nat.{ℕ, suc}
 use Prim.Native.String.{String}
 use mathlib.Core.Path.{_≡_, refl, sym, ap, _∙_}
-use mathlib.Core.Bool.{Bool, true, false}
+use mathlib.Core.Bool.{true, false}
 use mathlib.Core.Option.{Option, none, some}
 use mathlib.Core.List.{List, [], _∷_}
 use lib.IntN.{pos}
-use lib.ListN.{length, drop}
+use lib.ListN.{drop}
 use Rattle.lists.specs.Lists.{isNil}
 use Rattle.lists.proofs.Bools.{torn}
 use Rattle.format.specs.Bytes.{Bytes, bytes, fields}
-use Rattle.format.specs.Rows.{_andThen_, number, symbol, field, optional, nothingMore, placeIn, firstNumbers, atomShape, Row, row, marked}
+use Rattle.format.specs.Rows.{_andThen_, number, symbol, field, optional, nothingMore, placeIn, firstNumbers, atomShape, row, marked}
 use Rattle.scan.specs.NextFields.{fieldIn, NextField}
 use Rattle.scan.specs.ShownNumbers.{Shows}
 use Rattle.scan.specs.ShownSymbols.{symOfMark, shownSymbol, ShowsSymbol}

@@ -1,8 +1,8 @@
 -- What the code's order of tests adds to the clauses of the formula's machine (format/proofs/FormulaLaws), and numbers no longer than their digits: document 01,
 -- "Rows", MOLFORM. Assumes nothing.
 use Prim.Native.Nat.{ℕ, suc, _+_, _-_, _*_, _^_, _≤_, _<_}
-use mathlib.Core.Path.{_≡_, refl}
-use mathlib.Core.Bool.{Bool, true, false, _&&_}
+use mathlib.Core.Path.{_≡_}
+use mathlib.Core.Bool.{Bool, true, false}
 use native.Mathlib.Omega.{arith}
 use native.Mathlib.Nat.{pow-suc, pow-le-pow-right}
 use lib.Dec.{eqb}

@@ -1,16 +1,15 @@
 -- The total of an isotope over a formula, told entry by entry, with a sum that stays at 1,000,000: document 01, "Rows", the totals at END. Assumes nothing.
-use Prim.Native.Nat.{ℕ, suc, _+_, _≤_, _<_, min}
-use mathlib.Core.Path.{_≡_, refl, sym, ap, ap₂, _∙_}
-use mathlib.Core.Bool.{Bool, true, false, _&&_}
+use Prim.Native.Nat.{ℕ, _+_, min}
+use mathlib.Core.Path.{_≡_, refl, sym, ap, _∙_}
 use mathlib.Core.Option.{Option, none, some}
-use mathlib.Core.List.{List, [], _∷_, _++_, map}
+use mathlib.Core.List.{List, [], _∷_}
 use native.Mathlib.Omega.{arith}
 use native.Mathlib.Nat.{zero-add, add-zero}
 use borrow.Author.Tests.{eq-eqb, ne-eqb}
 use lib.Dec.{eqb}
 use Rattle.lists.proofs.Bools.{and-both, and-left-false, and-right-false}
-use Rattle.format.specs.Formula.{Counted, counted, join, formulaShape}
-use Rattle.format.specs.Structure.{Isotope, isotopeOf, isotope, Entry, entry, sameIsotope, total}
+use Rattle.format.specs.Formula.{Counted, join}
+use Rattle.format.specs.Structure.{Isotope, isotope, Entry, sameIsotope, total}
 use Rattle.format.proofs.TotalLaws.{total-nil, total-hit, total-miss, total-append}
 use Rattle.rows.specs.Totals.{entryOf, formulaEntries, formulaTotal, totalWith}
 

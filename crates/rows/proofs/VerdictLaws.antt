@@ -4,17 +4,16 @@ use Prim.Native.Nat.{ℕ, zero, suc, _+_, _≤_, _<_, min}
 use mathlib.Core.Path.{_≡_, refl, sym, ap, ap₂, _∙_}
 use mathlib.Core.Bool.{Bool, true, false, _&&_, _||_, not}
 use mathlib.Core.Option.{Option, none, some}
-use mathlib.Core.List.{List, [], _∷_, _++_, map}
+use mathlib.Core.List.{List, [], _∷_, _++_}
 use native.Mathlib.Omega.{arith}
 use native.Mathlib.Nat.{min-eq-left, min-eq-right}
-use lib.Dec.{eqb}
 use borrow.Author.Tests.{eq-eqb, ne-eqb}
 use Rattle.lists.specs.Lists.{all, any}
-use Rattle.lists.proofs.Bools.{torn, and-both, and-left-false, and-right-false}
+use Rattle.lists.proofs.Bools.{and-both, and-left-false, and-right-false}
 use Rattle.lists.proofs.ListLaws.{all-nil, all-one, all-append, any-nil, any-one, any-append}
-use Rattle.format.specs.Bytes.{Bytes, within}
-use Rattle.format.specs.Formula.{Counted, counted, finish, join, frun, formulaShape}
-use Rattle.format.specs.Structure.{Isotope, isotope, unknown, massOk, entry}
+use Rattle.format.specs.Bytes.{within}
+use Rattle.format.specs.Formula.{Counted, join}
+use Rattle.format.specs.Structure.{Isotope, isotope, unknown, massOk}
 use Rattle.format.specs.Reading.{State, Turn, Go, Stop, if_stop_else_, withFormula, formulaTurn}
 use Rattle.format.proofs.ByteLaws.{within-is, within-low, within-high}
 use Rattle.rows.specs.Verdicts.{verdictOf, entriesVerdict, formulaVerdict, lowest, refusalWith, turnOf}

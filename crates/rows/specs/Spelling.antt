@@ -1,7 +1,7 @@
 -- The letters that have a number in the table of elements, and the elements up to one: document 01, "Rows", ATOMLIST. Assumes nothing.
 use Prim.Native.Nat.{ℕ, zero, suc, _+_, _/_, _%_}
-use mathlib.Core.Bool.{Bool, true, false}
-use mathlib.Core.List.{List, [], _∷_}
+use mathlib.Core.Bool.{true, false}
+use mathlib.Core.List.{[], _∷_}
 use lib.Dec.{leb}
 use Rattle.format.specs.Bytes.{Bytes}
 

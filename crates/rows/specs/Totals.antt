@@ -2,7 +2,7 @@
 -- Assumes nothing.
 use Prim.Native.Nat.{ℕ, _+_, min}
 use mathlib.Core.Option.{Option, none, some}
-use mathlib.Core.List.{List, [], _∷_, map}
+use mathlib.Core.List.{List, [], map}
 use Rattle.format.specs.Formula.{Counted}
 use Rattle.format.specs.Structure.{Isotope, isotope, Entry, entry, total}
 

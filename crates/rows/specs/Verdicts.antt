@@ -3,7 +3,7 @@
 use Prim.Native.Nat.{ℕ, zero, suc, min}
 use mathlib.Core.Bool.{Bool, true, false, _&&_}
 use mathlib.Core.Option.{Option, none, some}
-use mathlib.Core.List.{List, [], _∷_}
+use mathlib.Core.List.{List}
 use Rattle.lists.specs.Lists.{all, any}
 use Rattle.format.specs.Bytes.{within}
 use Rattle.format.specs.Formula.{Counted}

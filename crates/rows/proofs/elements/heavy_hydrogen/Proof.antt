@@ -1,5 +1,4 @@
 -- `rows::elements::heavy_hydrogen` meets its contract. Assumes nothing.
-use mathlib.Core.Path.{sym, ap}
 use Rattle.format.specs.Structure.{heavy}
 use Rattle.rows.proofs.elements.heavy_hydrogen.Statement.{statement}
 use Rattle.rows.proofs.elements.heavy_hydrogen.Tie as tie

@@ -1,5 +1,5 @@
 -- `rows::formula::caret_step` meets its contract. Assumes nothing.
-use mathlib.Core.Path.{sym, ap, _∙_}
+use mathlib.Core.Path.{sym, _∙_}
 use native.Mathlib.Omega.{arith}
 use Rattle.format.proofs.ByteLaws.{digit-bounds}
 use Rattle.format.proofs.FormulaLaws.{caret-digit, caret-dead}
