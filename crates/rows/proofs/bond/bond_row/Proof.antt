@@ -1,4 +1,7 @@
 -- `rows::bond::bond_row` meets its contract. Assumes nothing.
+use Prim.Native.Nat.{ℕ}
+use mathlib.Core.List.{List}
+use Rattle.rows.specs.Parts.{TwoAre}
 use lib.ListN.{drop}
 use Rattle.format.specs.Bytes.{fields}
 use mathlib.Core.Path.{sym, _∙_}
@@ -9,6 +12,14 @@ use Rattle.rows.proofs.ShapeLaws.{end-none, end-some, no-atoms, no-lett
 use borrow.Author.Needs.{needs}
 use Rattle.rows.proofs.bond.bond_row.Statement.{statement}
 use Rattle.rows.proofs.bond.bond_row.Tie as tie
+
+-- the line
+abbrev line-of : tie.After-next-field → List ℕ
+line-of q = q .before .before .before .before .before .before .args .line .now
+
+-- the atoms in front, and where the fields behind them start
+front : (q : tie.After-next-field) → TwoAre (line-of q) (q .before .before .one .given .0 .0) (q .before .before .one .given .0 .1 .0) (q .before .before .one .given .0 .1 .1 .0)
+front q = two-told (line-of q) _ (q .before .before .before .before .two-atoms .ensures) _ _ _ (q .before .before .one .given .1)
 
 two-atoms-requires : tie.Need-two-atoms-requires
 two-atoms-requires c κs = search needs
@@ -33,7 +44,7 @@ part-bond-kind-start : tie.Need-part-bond-kind-start
 part-bond-kind-start c = search needs
 
 part-bond-kind-end : tie.Need-part-bond-kind-end
-part-bond-kind-end c = let q = c in let k = q .before in let line = k .before .before .before .before .before .args .line .now in let t = two-told line _ (k .before .before .before .two-atoms .ensures) _ _ _ (k .before .one .given .1) in q .next-field .ensures .high (t .behind .high)
+part-bond-kind-end c = c .next-field .ensures .high (front c .behind .high)
 
 bond-kind-requires : tie.Need-bond-kind-requires
 bond-kind-requires c κs = search needs
@@ -46,18 +57,18 @@ enum-told-2 c = search needs
 
 returns-2 : tie.Need-returns-2
 unfolding rowShape
-returns-2 c = let q = c .before .before .before .before in let k = q .before in let line = k .before .before .before .before .before .args .line .now in let t = two-told line _ (k .before .before .before .two-atoms .ensures) _ _ _ (k .before .one .given .1) in record { is = no-letter 2 1 "SDTQA" nothingMore line _ (t .are) _ (t .behind) _ (q .next-field .ensures) 6 _ (c .before .before .bond-kind .ensures) (c .enum-told2 .given .1); small = tt }
+returns-2 c = let q = c .before .before .before .before in record { is = no-letter 2 1 "SDTQA" nothingMore (line-of q) _ (front q .are) _ (front q .behind) _ (q .next-field .ensures) 6 _ (c .before .before .bond-kind .ensures) (c .enum-told2 .given .1); small = tt }
 
 at-end-requires : tie.Need-at-end-requires
 at-end-requires c κs = search needs
 
 returns-3 : tie.Need-returns-3
 unfolding rowShape
-returns-3 c = let m = c .before .before in let q = m .before .before .before .before .before in let k = q .before in let line = k .before .before .before .before .before .args .line .now in let t = two-told line _ (k .before .before .before .two-atoms .ensures) _ _ _ (k .before .one .given .1) in record { is = no-last 2 1 "SDTQA" nothingMore line _ (t .are) _ (t .behind) _ (q .next-field .ensures) 6 _ (m .before .before .before .bond-kind .ensures) _ (m .before .kind .given .1) (end-none (fields (drop (q .next-field .result .to) line)) (sym (c .before .at-end .ensures) ∙ not-true _ (c .if1 .taken))); small = tt }
+returns-3 c = let m = c .before .before in let q = m .before .before .before .before .before in record { is = no-last 2 1 "SDTQA" nothingMore (line-of q) _ (front q .are) _ (front q .behind) _ (q .next-field .ensures) 6 _ (m .before .before .before .bond-kind .ensures) _ (m .before .kind .given .1) (end-none (fields (drop (q .next-field .result .to) (line-of q))) (sym (c .before .at-end .ensures) ∙ not-true _ (c .if1 .taken))); small = tt }
 
 returns-4 : tie.Need-returns-4
 unfolding rowShape
-returns-4 c = let m = c .before .before in let q = m .before .before .before .before .before in let k = q .before in let line = k .before .before .before .before .before .args .line .now in let t = two-told line _ (k .before .before .before .two-atoms .ensures) _ _ _ (k .before .one .given .1) in let s = m .before .before .before .bond-kind .ensures in record { is = row-is 2 1 "SDTQA" nothingMore line _ (t .are) _ (t .behind) _ (q .next-field .ensures) 6 _ s _ (m .before .kind .given .1) 0 (end-some (fields (drop (q .next-field .result .to) line)) (sym (c .before .at-end .ensures) ∙ not-false _ (c .if1 .left))); small = (t .one, t .other, s .small _ (m .before .kind .given .1)) }
+returns-4 c = let m = c .before .before in let q = m .before .before .before .before .before in let s = m .before .before .before .bond-kind .ensures in record { is = row-is 2 1 "SDTQA" nothingMore (line-of q) _ (front q .are) _ (front q .behind) _ (q .next-field .ensures) 6 _ s _ (m .before .kind .given .1) 0 (end-some (fields (drop (q .next-field .result .to) (line-of q))) (sym (c .before .at-end .ensures) ∙ not-false _ (c .if1 .left))); small = (front q .one, front q .other, s .small _ (m .before .kind .given .1)) }
 
 pub bond-row-spec : {M : Type 1} → statement M
 bond-row-spec =
