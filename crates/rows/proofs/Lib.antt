@@ -10,3 +10,5 @@ pub mod RunLaws
 pub mod PassLaws
 pub mod VerdictLaws
 pub mod SumLaws
+pub mod PartLaws
+pub mod ShapeLaws

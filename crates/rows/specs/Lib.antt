@@ -5,3 +5,5 @@ pub mod Machine
 pub mod Verdicts
 pub mod Totals
 pub mod Passes
+pub mod Parts
+pub mod Answers

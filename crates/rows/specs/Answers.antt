@@ -1,0 +1,70 @@
+-- How the rows in code are shown as those of the definitions, and the bounds of their numbers: document 01, "Rows". Assumes nothing.
+use Prim.Native.Nat.{ℕ, _<_}
+use mathlib.Core.Path.{_≡_}
+use mathlib.Core.Option.{Option, none, some}
+use mathlib.Core.List.{[], _∷_}
+use lib.IntN.{pos}
+use Rattle.format.specs.Rows.{AtomRow, Row, row}
+use Rattle.scan.specs.ShownSymbols.{symOfMark}
+use Rattle.scan.specs.declared.symbols.Mark.{Mark}
+use Rattle.rows.specs.declared.atom.AtomRow.{AtomRow as AtomAnswer}
+use Rattle.rows.specs.declared.atom.AtomRow.the-variants as A
+use Rattle.rows.specs.declared.bond.BondRow.{BondRow}
+use Rattle.rows.specs.declared.bond.BondRow.the-variants as B
+use Rattle.rows.specs.declared.centre.CentreRow.{CentreRow}
+use Rattle.rows.specs.declared.centre.CentreRow.the-variants as C
+use Rattle.rows.specs.declared.pair.PairRow.{PairRow}
+use Rattle.rows.specs.declared.pair.PairRow.the-variants as P
+
+abbrev pub atomRowOf : (number : ℕ) → Mark → (hydrogens : ℕ) → AtomRow
+atomRowOf n x h = record { number = n; symbol = symOfMark x; hydrogens = h }
+
+abbrev pub atomShown : AtomAnswer → Option AtomRow
+atomShown (A.Values n x h) = some (atomRowOf n x h)
+atomShown A.Wrong = none
+
+abbrev pub bondShown : BondRow → Option Row
+bondShown (B.Values n m v) = some (row (n ∷ m ∷ []) (pos v) 0)
+bondShown B.Wrong = none
+
+abbrev pub centreShown : CentreRow → Option Row
+centreShown (C.Values n v g) = some (row (n ∷ []) (pos v) g)
+centreShown C.Wrong = none
+
+abbrev pub pairShown : PairRow → Option Row
+pairShown (P.Values n m v g) = some (row (n ∷ m ∷ []) (pos v) g)
+pairShown P.Wrong = none
+
+-- THE BOUNDS of an answer's numbers
+abbrev pub AtomSmall : AtomAnswer → Type 0
+AtomSmall (A.Values n x h) = (n < 1000000) × (x .mass < 1000) × (h < 1000000)
+AtomSmall A.Wrong = Unit {0}
+
+abbrev pub BondSmall : BondRow → Type 0
+BondSmall (B.Values n m v) = (n < 1000000) × (m < 1000000) × (v < 6)
+BondSmall B.Wrong = Unit {0}
+
+abbrev pub CentreSmall : CentreRow → Type 0
+CentreSmall (C.Values n v g) = (n < 1000000) × (v < 3) × (g < 123)
+CentreSmall C.Wrong = Unit {0}
+
+abbrev pub PairSmall : PairRow → Type 0
+PairSmall (P.Values n m v g) = (n < 1000000) × (m < 1000000) × (v < 3) × (g < 123)
+PairSmall P.Wrong = Unit {0}
+
+-- WHAT A READER PROMISES of its answer r to what is asked
+pub record ShowsAtomRow (asked : Option AtomRow) (r : AtomAnswer) : Type 0 where
+  pub is : atomShown r ≡ asked
+  pub small : AtomSmall r
+
+pub record ShowsBondRow (asked : Option Row) (r : BondRow) : Type 0 where
+  pub is : bondShown r ≡ asked
+  pub small : BondSmall r
+
+pub record ShowsCentreRow (asked : Option Row) (r : CentreRow) : Type 0 where
+  pub is : centreShown r ≡ asked
+  pub small : CentreSmall r
+
+pub record ShowsPairRow (asked : Option Row) (r : PairRow) : Type 0 where
+  pub is : pairShown r ≡ asked
+  pub small : PairSmall r

@@ -1,0 +1,37 @@
+// A row of ATOMLIST: document 01, "Rows".
+ghost use Rattle.format.specs.Bytes.{fields};
+ghost use Rattle.format.specs.Rows.{atomShape};
+ghost use Rattle.rows.specs.Answers.{ShowsAtomRow};
+use crate::parts::AtomAt;
+use crate::parts::atom_at;
+use crate::parts::last_number;
+use scan::fields::next_field;
+use scan::numbers::Numeral;
+use scan::symbols::Mark;
+use scan::symbols::Spelling;
+use scan::symbols::symbol;
+
+// An atom's number, its symbol and its implied hydrogens, or no shape of a row.
+pub enum AtomRow {
+    Values(u32, Mark, u32),
+    Wrong,
+}
+
+// The values of a row: "number, symbol, optional hydrogens 0 to 15 (absent means 0)". The line is without its comment.
+pub fn atom_row(line: &[u8]) -> AtomRow
+    ensures { λ r. ⌜ ShowsAtomRow (atomShape (fields (now (line .entry)))) r ⌝ }
+{
+    let AtomAt::Atom(number, at) = atom_at(line, 0) else {
+        return AtomRow::Wrong;
+    };
+    let field = next_field(line, at);
+    let from = field.from;
+    let to = field.to;
+    let Spelling::Spelt(mark) = symbol(&line[from..to]) else {
+        return AtomRow::Wrong;
+    };
+    let Numeral::Value(hydrogens) = last_number(line, to) else {
+        return AtomRow::Wrong;
+    };
+    AtomRow::Values(number, mark, hydrogens)
+}
