@@ -24,3 +24,4 @@ pub mod KeyedLaws
 pub mod RecordLaws
 pub mod AtomLaws
 pub mod KindLaws
+pub mod KeyedLines
