@@ -25,3 +25,4 @@ pub mod RecordLaws
 pub mod AtomLaws
 pub mod KindLaws
 pub mod AtomPartLaws
+pub mod KeyedLines

@@ -80,6 +80,7 @@ pub fn join(
     requires { ⌜ (length (now region) ≡ 2 * most) × (count ≤ most) × (most ≤ 512) ⌝ }
     ensures { λ r. ⌜ (length (now (region .exit)) ≡ length (now (region .entry))) × KeptWithin most r × JoinShows most key payload drops count (now (region .entry)) (now (region .exit)) r ⌝ }
 {
+    let more = count + 1;
     let place = place_of(region, count, key);
     if stands_at(region, count, place, key) {
         if !drops {
@@ -94,5 +95,5 @@ pub fn join(
         return RowAfter::Stop(14);
     }
     put_row(region, place, count, key, payload);
-    RowAfter::Kept(count + 1)
+    RowAfter::Kept(more)
 }

@@ -7,8 +7,12 @@ ghost use Prim.Native.Nat.{_*_, _≤_};
 ghost use lib.ListN.{length};
 ghost use Rattle.lists.specs.Lists.{isNil};
 ghost use Rattle.format.specs.Bytes.{within, fields};
-ghost use Rattle.reader.specs.Keyed.{KeptWithin, RowShows};
+ghost use Rattle.format.specs.Labels.{Bonds, Centres, Pairs};
+ghost use Rattle.reader.specs.Keyed.{KeptWithin, RowShows, LineShows};
 use crate::after::RowAfter;
+use rows::bond::BondRow;
+use rows::centre::CentreRow;
+use rows::pair::PairRow;
 
 // Whether the line has no field: "lines then blank are skipped".
 fn is_bare(line: &[u8]) -> bool
@@ -73,4 +77,55 @@ fn two_atoms(
         return crate::join::join(region, count, most, 1024 * first + second, payload, drops);
     }
     crate::join::join(region, count, most, 1024 * second + first, payload, drops)
+}
+
+// What a line of BONDLIST leaves of its list, `count` bonds there and `atoms` atoms listed: "two atoms and S, D, T, Q or A". The line is without its comment.
+pub fn bond_line(line: &[u8], atoms: usize, count: usize, region: &mut [u32]) -> RowAfter
+    requires { ⌜ (length (now region) ≡ 1024) × (count ≤ 512) × (atoms ≤ 256) ⌝ }
+    ensures { λ r. ⌜ (length (now (region .exit)) ≡ 1024) × KeptWithin 512 r × LineShows Bonds atoms count (now (line .entry)) (now (region .entry)) (now (region .exit)) r ⌝ }
+{
+    if is_bare(line) {
+        return RowAfter::Kept(count);
+    }
+    let BondRow::Values(first, second, kind) = rows::bond::bond_row(line) else {
+        return RowAfter::Stop(9);
+    };
+    two_atoms(atoms, count, region, 512, first, second, 256 * kind, true)
+}
+
+// What a line of STEREOCENTER leaves of its list: "atom, P or M, optional group `0`, A to Z or a to z".
+pub fn centre_line(line: &[u8], atoms: usize, count: usize, region: &mut [u32]) -> RowAfter
+    requires { ⌜ (length (now region) ≡ 256) × (count ≤ 128) × (atoms ≤ 256) ⌝ }
+    ensures { λ r. ⌜ (length (now (region .exit)) ≡ 256) × KeptWithin 128 r × LineShows Centres atoms count (now (line .entry)) (now (region .entry)) (now (region .exit)) r ⌝ }
+{
+    if is_bare(line) {
+        return RowAfter::Kept(count);
+    }
+    let CentreRow::Values(atom, side, group) = rows::centre::centre_row(line) else {
+        return RowAfter::Stop(9);
+    };
+    one_atom(atoms, count, region, 128, atom, 256 * side + group)
+}
+
+// What a line of STEREOPAIR leaves of its list: "two atoms, P, M or 0, optional group".
+pub fn pair_line(line: &[u8], atoms: usize, count: usize, region: &mut [u32]) -> RowAfter
+    requires { ⌜ (length (now region) ≡ 256) × (count ≤ 128) × (atoms ≤ 256) ⌝ }
+    ensures { λ r. ⌜ (length (now (region .exit)) ≡ 256) × KeptWithin 128 r × LineShows Pairs atoms count (now (line .entry)) (now (region .entry)) (now (region .exit)) r ⌝ }
+{
+    if is_bare(line) {
+        return RowAfter::Kept(count);
+    }
+    let PairRow::Values(first, second, side, group) = rows::pair::pair_row(line) else {
+        return RowAfter::Stop(9);
+    };
+    two_atoms(
+        atoms,
+        count,
+        region,
+        128,
+        first,
+        second,
+        256 * side + group,
+        false,
+    )
 }

@@ -8,6 +8,9 @@ use borrow.Author.Needs.{needs}
 use Rattle.reader.proofs.join.join.Statement.{statement}
 use Rattle.reader.proofs.join.join.Tie as tie
 
+add-more : tie.Need-add-more
+add-more c = search needs
+
 place-of-requires : tie.Need-place-of-requires
 place-of-requires c κs = search needs
 
@@ -18,7 +21,7 @@ same-length : tie.Need-same-length
 same-length c = search needs
 
 returns : tie.Need-returns
-returns c = (refl, stop-within 13 _, shows-met _ _ _ _ _ _ _ (sym (c .before .before .stands-at .ensures) ∙ c .before .if1 .taken) _ (not-true _ (c .if2 .taken)))
+returns c = (refl, stop-within _ _, shows-met _ _ _ _ _ _ _ (sym (c .before .before .stands-at .ensures) ∙ c .before .if1 .taken) _ (not-true _ (c .if2 .taken)))
 
 mul-if3 : tie.Need-mul-if3
 mul-if3 c = search needs
@@ -42,19 +45,16 @@ same-length-3 : tie.Need-same-length-3
 same-length-3 c = search needs
 
 returns-3 : tie.Need-returns-3
-returns-3 c = (refl, stop-within 13 _, shows-clash _ _ _ _ _ _ _ (sym (c .before .before .before .before .stands-at .ensures) ∙ c .before .before .before .if1 .taken) _ (not-false _ (c .before .before .if2 .left)) (c .if3 .left))
+returns-3 c = (refl, stop-within _ _, shows-clash _ _ _ _ _ _ _ (sym (c .before .before .before .before .stands-at .ensures) ∙ c .before .before .before .if1 .taken) _ (not-false _ (c .before .before .if2 .left)) (c .if3 .left))
 
 same-length-4 : tie.Need-same-length-4
 same-length-4 c = search needs
 
 returns-4 : tie.Need-returns-4
-returns-4 c = (refl, stop-within 14 _, shows-full _ _ _ _ _ _ _ (c .before .before .before .before .place-of .ensures .0) (c .before .before .before .before .place-of .ensures .1) (sym (c .before .before .stands-at .ensures) ∙ c .before .if1 .left) _ (c .if4 .taken))
+returns-4 c = (refl, stop-within _ _, shows-full _ _ _ _ _ _ _ (c .before .before .before .before .place-of .ensures .0) (c .before .before .before .before .place-of .ensures .1) (sym (c .before .before .stands-at .ensures) ∙ c .before .if1 .left) _ (c .if4 .taken))
 
 put-row-requires : tie.Need-put-row-requires
 put-row-requires c κs = search needs
-
-add-t23 : tie.Need-add-t23
-add-t23 c = search needs
 
 same-length-5 : tie.Need-same-length-5
 same-length-5 c = search needs
@@ -66,6 +66,7 @@ pub join-spec : {M : Type 1} → statement M
 join-spec =
     tie.close
     (tie.spec
+    add-more
     place-of-requires
     stands-at-requires
     same-length
@@ -81,6 +82,5 @@ join-spec =
     same-length-4
     returns-4
     put-row-requires
-    add-t23
     same-length-5
     returns-5)

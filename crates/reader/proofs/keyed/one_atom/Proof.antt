@@ -13,7 +13,7 @@ is-listed-requires : tie.Need-is-listed-requires
 is-listed-requires c κs = search needs
 
 returns : tie.Need-returns
-returns c = (refl, stop-within 11 _, shows-unlisted _ _ _ _ _ _ _ _ (one-unlisted _ _ (sym (c .before .is-listed .ensures) ∙ not-true _ (c .if1 .taken))))
+returns c = (refl, stop-within _ _, shows-unlisted _ _ _ _ _ _ _ _ (one-unlisted _ _ (sym (c .before .is-listed .ensures) ∙ not-true _ (c .if1 .taken))))
 
 mul-join : tie.Need-mul-join
 mul-join c = one-fits _ _ (c .before .before .before .before .pre .3) (sym (c .before .before .is-listed .ensures) ∙ not-false _ (c .before .if1 .left))

@@ -11,16 +11,16 @@ is-listed-requires : tie.Need-is-listed-requires
 is-listed-requires c κs = search needs
 
 returns : tie.Need-returns
-returns c = (refl, stop-within 11 _, shows-unlisted _ _ _ _ _ _ _ _ (first-unlisted _ _ _ (sym (c .before .is-listed .ensures) ∙ not-true _ (c .if1 .taken))))
+returns c = (refl, stop-within _ _, shows-unlisted _ _ _ _ _ _ _ _ (first-unlisted _ _ _ (sym (c .before .is-listed .ensures) ∙ not-true _ (c .if1 .taken))))
 
 is-listed-requires-2 : tie.Need-is-listed-requires-2
 is-listed-requires-2 c κs = search needs
 
 returns-2 : tie.Need-returns-2
-returns-2 c = (refl, stop-within 11 _, shows-unlisted _ _ _ _ _ _ _ _ (second-unlisted _ _ _ (sym (c .before .before .before .is-listed .ensures) ∙ not-false _ (c .before .before .if1 .left)) (sym (c .before .is-listed2 .ensures) ∙ not-true _ (c .if2 .taken))))
+returns-2 c = (refl, stop-within _ _, shows-unlisted _ _ _ _ _ _ _ _ (second-unlisted _ _ _ (sym (c .before .before .before .is-listed .ensures) ∙ not-false _ (c .before .before .if1 .left)) (sym (c .before .is-listed2 .ensures) ∙ not-true _ (c .if2 .taken))))
 
 returns-3 : tie.Need-returns-3
-returns-3 c = (refl, stop-within 13 _, shows-itself _ _ _ _ _ _ _ _ (both-listed _ _ _ (sym (c .before .before .before .before .is-listed .ensures) ∙ not-false _ (c .before .before .before .if1 .left)) (sym (c .before .before .is-listed2 .ensures) ∙ not-false _ (c .before .if2 .left))) (pair-equal _ _ (c .if3 .taken)))
+returns-3 c = (refl, stop-within _ _, shows-itself _ _ _ _ _ _ _ _ (both-listed _ _ _ (sym (c .before .before .before .before .is-listed .ensures) ∙ not-false _ (c .before .before .before .if1 .left)) (sym (c .before .before .is-listed2 .ensures) ∙ not-false _ (c .before .if2 .left))) (pair-equal _ _ (c .if3 .taken)))
 
 mul-join : tie.Need-mul-join
 mul-join c = one-fits _ _ (c .before .before .before .before .before .before .before .before .pre .3) (sym (c .before .before .before .before .before .before .is-listed .ensures) ∙ not-false _ (c .before .before .before .before .before .if1 .left))
