@@ -34,6 +34,13 @@ total-sum i k a b = go (sameIsotope i k) refl
     go true h = rw (isotope-is i k h) (omega (arith, total-own k (a + b), total-own k a, total-own k b))
     go false h = omega (arith, total-other i k (a + b) h, total-other i k a h, total-other i k b h)
 
+pub total-most : (i k : Isotope) (n : ℕ) → total i (entry k n ∷ []) ≤ n
+total-most i k n = go (sameIsotope i k) refl
+  where
+    go : (t : Bool) → sameIsotope i k ≡ t → total i (entry k n ∷ []) ≤ n
+    go true h = rw (isotope-is i k h) (omega (arith, total-own k n))
+    go false h = omega (arith, total-other i k n h)
+
 pub total-none : (i k : Isotope) → total i (entry k 0 ∷ []) ≡ 0
 total-none i k = omega (arith, total-sum i k 0 0)
 

@@ -7,9 +7,8 @@ ghost use mathlib.Core.List.{List, []};
 ghost use Prim.Native.Nat.{ℕ, _+_, _<_, _≤_};
 ghost use lib.ListN.{length, getD, set, drop};
 ghost use Rattle.lists.specs.Lists.{all};
-ghost use Rattle.format.specs.Structure.{Atom, Isotope, isotopeOf, entry, entriesOf, atomOk, total};
-ghost use Rattle.reader.specs.Regions.{kindsRegion};
-ghost use Rattle.reader.specs.Left.{leftOf, isZero, Blank, Adds, Takes, Counts, Says, cellOf};
+ghost use Rattle.format.specs.Structure.{isotopeOf, entry};
+ghost use Rattle.reader.specs.Left.{leftOf, isZero, Blank, Adds, Takes, Counts, Says, Tallied, cellOf};
 
 // So many more of an element without mass.
 fn add(counts: &mut [u32], element: u32, number: u32)
@@ -47,6 +46,19 @@ fn tally_atom(
     }
     elements[place] = element;
     masses[place] = mass;
+}
+
+// The atoms are tallied, "with implied hydrogens counted as hydrogen without mass".
+fn tally(kinds: &[u32], atoms: usize, counts: &mut [u32], elements: &mut [u32], masses: &mut [u32])
+    requires { ⌜ (length (now kinds) ≡ 768) × (atoms ≤ 256) × (length (now counts) ≡ 104) × (length (now elements) ≡ 256) × (length (now masses) ≡ 256) × Blank (now counts) × Blank (now masses) ⌝ }
+    ensures { λ _. ⌜ (length (now (counts .exit)) ≡ 104) × (length (now (elements .exit)) ≡ 256) × (length (now (masses .exit)) ≡ 256) × Tallied (now (kinds .entry)) atoms atoms (leftOf (now (counts .exit)) (now (elements .exit)) (now (masses .exit))) ⌝ }
+{
+    let mut i = 0;
+    while i < atoms {
+        add(counts, 1, kinds[3 * i + 2]);
+        tally_atom(i, kinds[3 * i], kinds[3 * i + 1], counts, elements, masses);
+        i += 1;
+    }
 }
 
 // Takes the atom of a cell where it is of an element and a mass: 1 where it is, else 0.
