@@ -1,8 +1,8 @@
 -- The atoms tallied one by one: what comes to what is left. Serves document 01, "the atoms listed, with implied hydrogens counted as hydrogen without mass".
 -- Assumes nothing.
 use Prim.Native.Nat.{ℕ, zero, suc, _+_, _-_, _*_, _≤_, _<_}
-use mathlib.Core.Path.{_≡_, refl, sym, ap, ap₂, _∙_}
-use mathlib.Core.Bool.{Bool, true, _&&_}
+use mathlib.Core.Path.{_≡_, refl, ap, ap₂, _∙_}
+use mathlib.Core.Bool.{true, _&&_}
 use mathlib.Core.List.{List, [], _∷_, _++_}
 use native.Mathlib.Numerals.{add-one}
 use native.Mathlib.Omega.{arith}
@@ -18,10 +18,10 @@ use Rattle.lists.proofs.RegionLaws.{flat-cell}
 use Rattle.format.specs.Bytes.{within}
 use Rattle.format.specs.Structure.{Isotope, isotopeOf, Atom, atomOk, Entry, entry, entriesOf, total}
 use Rattle.format.proofs.ByteLaws.{within-true}
-use Rattle.format.proofs.TotalLaws.{total-nil, total-cons, total-append, entries-bare, entries-implied, entries-append}
+use Rattle.format.proofs.TotalLaws.{total-nil, total-append, entries-bare, entries-implied, entries-append}
 use Rattle.reader.specs.Regions.{kindCells, kindsRegion}
-use Rattle.reader.specs.Left.{leftOf, Blank, Adds, Counts, Tallied}
-use Rattle.reader.proofs.LeftLaws.{share-one, total-most, total-none, left-light, light-added, left-none}
+use Rattle.reader.specs.Left.{leftOf, Blank, Adds, Tallied}
+use Rattle.reader.proofs.LeftLaws.{total-most, total-none, left-light, light-added, left-none}
 
 -- ONE ATOM
 pub atom-light : (cs cs′ es ms : List ℕ) (e m : ℕ) → length cs ≡ 104 → m ≡ 0 → (e ≤ 103 → 1 ≤ 15 → getD cs e 0 ≤ 9999 → cs′ ≡ set cs e (getD cs e 0 + 1)) → e ≤ 103 → getD cs e 0 ≤ 9999 →

@@ -46,6 +46,9 @@ abbrev pub Takes : (left next : Isotope → ℕ) → Entry → Bool → Type 0
 Takes left next e true = (i : Isotope) → next i + total i (e ∷ []) ≡ left i
 Takes left next e false = left (e .kind) < e .count
 
+pub record Took (left next : Isotope → ℕ) (e : Entry) (r : Bool) : Type 0 where
+  pub is : Takes left next e r
+
 -- what is left is what some entries count, isotope by isotope
 abbrev pub Counts : (left : Isotope → ℕ) → List Entry → Type 0
 Counts left es = (i : Isotope) → left i ≡ total i es
@@ -62,3 +65,6 @@ Says false P = P → ⊥
 abbrev pub Answers : (k : ℕ) → (left : Isotope → ℕ) → Option (List Told) → Bool → Type 0
 Answers k left none r = r ≡ false
 Answers k left (some cs) r = all (entryFine k) (entriesFrom k (some cs)) ≡ true → Says r (Counts left (entriesFrom k (some cs)))
+
+pub record Answered (k : ℕ) (left : Isotope → ℕ) (o : Option (List Told)) (r : Bool) : Type 0 where
+  pub is : Answers k left o r

@@ -1,3 +1,4 @@
+-- `reader::totals::tally` meets its contract. Assumes nothing.
 use Prim.Native.Nat.{ℕ, _-_, _≤_}
 use mathlib.Core.Path.{_≡_, _∙_}
 use native.Mathlib.Omega.{arith}
@@ -7,10 +8,6 @@ use Rattle.reader.specs.Left.{leftOf, Tallied}
 use Rattle.reader.proofs.TallyLaws.{tally-starts, tally-goes, tally-ends}
 use Rattle.reader.proofs.totals.tally.Statement.{statement}
 use Rattle.reader.proofs.totals.tally.Tie as tie
-use Rattle.reader.proofs.totals.tally.Reads as reads
-use Rattle.reader.proofs.totals.tally.Lts as lts
-use Rattle.reader.proofs.totals.add.Reads as add-reads
-use Rattle.reader.proofs.totals.tally_atom.Reads as tally-atom-reads
 
 abbrev Inv-loop : tie.InvT-loop
 Inv-loop kinds atoms counts₀ elements₀ masses₀ i₀ counts elements masses i = (i ≤ atoms) × (length counts ≡ 104) × (length elements ≡ 256) × (length masses ≡ 256) × ((n : ℕ) → i ≤ n → getD masses n 0 ≡ 0) × Tallied kinds atoms i (leftOf counts elements masses)
@@ -18,87 +15,66 @@ Inv-loop kinds atoms counts₀ elements₀ masses₀ i₀ counts elements masses
 abbrev μ-loop : tie.MeasureT-loop
 μ-loop kinds atoms counts₀ elements₀ masses₀ i₀ counts elements masses i = atoms - i
 
--- src/totals.rt:57:5
 loop-holds : tie.Need-loop-holds Inv-loop μ-loop
 loop-holds c = let x = c .before .before .before .before in (omega arith, search needs, search needs, search needs, λ n h. x .pre .6 n, tally-starts (x .args .kinds .now) (x .args .counts .now) (x .args .elements .now) (x .args .masses .now) (x .args .atoms) (x .pre .5) (x .pre .6))
 
--- src/totals.rt:58:30
 mul-add : tie.Need-mul-add Inv-loop μ-loop
 mul-add c = omega arith
 
--- src/totals.rt:58:30
 add-add : tie.Need-add-add Inv-loop μ-loop
 add-add c = omega arith
 
--- src/totals.rt:58:24
 mul-add-2 : tie.Need-mul-add-2 Inv-loop μ-loop
 mul-add-2 c = omega arith
 
--- src/totals.rt:58:24
 shared-slice-read-add : tie.Need-shared-slice-read-add Inv-loop μ-loop
 shared-slice-read-add c = omega arith
 
--- src/totals.rt:58:9
 add-requires : tie.Need-add-requires Inv-loop μ-loop
 add-requires c κs = search needs
 
--- src/totals.rt:59:29
 mul-tally-atom : tie.Need-mul-tally-atom Inv-loop μ-loop
 mul-tally-atom c = omega arith
 
--- src/totals.rt:59:23
 mul-tally-atom-2 : tie.Need-mul-tally-atom-2 Inv-loop μ-loop
 mul-tally-atom-2 c = omega arith
 
--- src/totals.rt:59:23
 shared-slice-read-tally-atom : tie.Need-shared-slice-read-tally-atom Inv-loop μ-loop
 shared-slice-read-tally-atom c = omega arith
 
--- src/totals.rt:59:43
 mul-tally-atom-3 : tie.Need-mul-tally-atom-3 Inv-loop μ-loop
 mul-tally-atom-3 c = omega arith
 
--- src/totals.rt:59:43
 add-tally-atom : tie.Need-add-tally-atom Inv-loop μ-loop
 add-tally-atom c = omega arith
 
--- src/totals.rt:59:37
 mul-tally-atom-4 : tie.Need-mul-tally-atom-4 Inv-loop μ-loop
 mul-tally-atom-4 c = omega arith
 
--- src/totals.rt:59:37
 shared-slice-read-tally-atom-2 : tie.Need-shared-slice-read-tally-atom-2 Inv-loop μ-loop
 shared-slice-read-tally-atom-2 c = omega arith
 
--- src/totals.rt:59:9
 tally-atom-requires : tie.Need-tally-atom-requires Inv-loop μ-loop
 tally-atom-requires c κs = search needs
 
--- src/totals.rt:60:9
 add-i : tie.Need-add-i Inv-loop μ-loop
 add-i c = search needs
 
--- src/totals.rt:57:5
 loop-less : tie.Need-loop-less Inv-loop μ-loop
 loop-less c = search needs
 
--- src/totals.rt:57:5
 loop-again : tie.Need-loop-again Inv-loop μ-loop
 loop-again c = let t = c .before .before .before .before .before .before in let d = t .before .before .before .before .before .before .before .before in let n = d .before .before .before in let l = n .before .loop in let x = n .before .before .before .before .before .before in (omega arith, t .tally-atom .ensures .0, t .tally-atom .ensures .1, t .tally-atom .ensures .2, λ m h. t .tally-atom .ensures .3 m (omega arith) ∙ l .inv .4 m (omega arith), tally-goes (x .args .kinds .now) (x .args .atoms) (l .i) (l .counts) (l .elements) (l .masses) (n .loop-test .taken) (x .pre .1) (l .inv .1) (l .inv .4 (l .i) (omega arith)) (l .inv .5) _ _ (d .add .ensures .1) (t .tally-atom .ensures .4))
 
--- src/totals.rt:52:1
 same-length : tie.Need-same-length Inv-loop μ-loop
 same-length c = search needs
 
--- src/totals.rt:52:1
 same-length-2 : tie.Need-same-length-2 Inv-loop μ-loop
 same-length-2 c = search needs
 
--- src/totals.rt:52:1
 same-length-3 : tie.Need-same-length-3 Inv-loop μ-loop
 same-length-3 c = search needs
 
--- src/totals.rt:52:1
 returns : tie.Need-returns Inv-loop μ-loop
 returns c = let l = c .before .loop in (l .inv .1, l .inv .2, l .inv .3, tally-ends _ _ _ _ (l .inv .0) (c .loop-test .left) (l .inv .5))
 
