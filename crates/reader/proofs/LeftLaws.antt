@@ -2,11 +2,11 @@
 -- formula's total .. equals the atoms listed". Assumes nothing.
 use Prim.Native.Nat.{ℕ, zero, suc, _+_, _-_, _≤_, _<_}
 use mathlib.Core.Path.{_≡_, refl, sym, ap, ap₂, _∙_}
-use mathlib.Core.Bool.{Bool, true, false, _&&_}
+use mathlib.Core.Bool.{Bool, true, false}
 use mathlib.Core.List.{List, [], _∷_}
 use native.Mathlib.Numerals.{add-one}
 use native.Mathlib.Omega.{arith}
-use lib.ListN.{length, getD, set, drop, drop-of-length-le}
+use lib.ListN.{length, getD, set, drop, replicate, drop-of-length-le}
 use lib.Seq.{drop-cons, getD-set-same, getD-set-other, set-getD}
 use lib.Dec.{eqb}
 use borrow.Author.Tests.{eqb-true, eq-eqb, ne-eqb}
@@ -33,6 +33,13 @@ total-sum i k a b = go (sameIsotope i k) refl
     go : (t : Bool) → sameIsotope i k ≡ t → total i (entry k (a + b) ∷ []) ≡ total i (entry k a ∷ []) + total i (entry k b ∷ [])
     go true h = rw (isotope-is i k h) (omega (arith, total-own k (a + b), total-own k a, total-own k b))
     go false h = omega (arith, total-other i k (a + b) h, total-other i k a h, total-other i k b h)
+
+pub total-most : (i k : Isotope) (n : ℕ) → total i (entry k n ∷ []) ≤ n
+total-most i k n = go (sameIsotope i k) refl
+  where
+    go : (t : Bool) → sameIsotope i k ≡ t → total i (entry k n ∷ []) ≤ n
+    go true h = rw (isotope-is i k h) (omega (arith, total-own k n))
+    go false h = omega (arith, total-other i k n h)
 
 pub total-none : (i k : Isotope) → total i (entry k 0 ∷ []) ≡ 0
 total-none i k = omega (arith, total-sum i k 0 0)
@@ -181,6 +188,12 @@ pub takes-both : (left mid next : Isotope → ℕ) (k : Isotope) (a b : ℕ) →
 takes-both left mid next k a b f g i = omega (arith, f i, g i, total-sum i k a b)
 
 -- NOTHING LEFT
+-- cells that are made
+pub zeros-blank : (n : ℕ) → Blank (replicate n 0)
+zeros-blank zero m = refl
+zeros-blank (suc n) zero = refl
+zeros-blank (suc n) (suc m) = zeros-blank n m
+
 pub all-blank : (l : List ℕ) → all isZero l ≡ true → Blank l
 all-blank [] h n = refl
 all-blank (x ∷ l) h zero = eqb-true x 0 (all-parts isZero x l h .0)

@@ -15,6 +15,7 @@ pub mod LaidLaws
 pub mod TurnLaws
 pub mod StrikeLaws
 pub mod TallyLaws
+pub mod AnswerLaws
 pub mod FillLaws
 pub mod MemberLaws
 pub mod SpreadLaws

@@ -1,7 +1,7 @@
 -- Atoms with a mass, taken cell by cell until so many are taken: what is left afterwards, or that there were fewer. Serves document 01, "for every element and
 -- mass, the formula's total .. equals the atoms listed". Assumes nothing.
 use Prim.Native.Nat.{ℕ, _+_, _-_, _≤_, _<_}
-use mathlib.Core.Path.{_≡_, refl, sym, ap, _∙_}
+use mathlib.Core.Path.{_≡_, refl, sym, ap}
 use mathlib.Core.Bool.{Bool, true, false}
 use mathlib.Core.List.{List}
 use native.Mathlib.Omega.{arith}

@@ -5,11 +5,12 @@ use mathlib.Core.Path.{_≡_}
 use mathlib.Core.Bool.{Bool, true, false}
 use mathlib.Core.Option.{Option, none, some}
 use mathlib.Core.List.{List, [], _∷_}
-use lib.ListN.{getD}
+use lib.ListN.{length, getD, take}
 use lib.Dec.{eqb}
 use Rattle.lists.specs.Lists.{all}
 use Rattle.format.specs.Formula.{Counted as Told}
-use Rattle.format.specs.Structure.{Isotope, isotopeOf, Entry, entry, sameIsotope, total}
+use Rattle.format.specs.Structure.{Isotope, isotopeOf, Atom, atomOk, Entry, entry, entriesOf, sameIsotope, total}
+use Rattle.reader.specs.Regions.{kindsRegion}
 use Rattle.reader.specs.Progress.{entriesFrom, entryFine}
 
 -- Atoms that have a mass, each in one cell of two lists: how many are of an isotope. A mass of 0 is no atom.
@@ -45,9 +46,16 @@ abbrev pub Takes : (left next : Isotope → ℕ) → Entry → Bool → Type 0
 Takes left next e true = (i : Isotope) → next i + total i (e ∷ []) ≡ left i
 Takes left next e false = left (e .kind) < e .count
 
+pub record Took (left next : Isotope → ℕ) (e : Entry) (r : Bool) : Type 0 where
+  pub is : Takes left next e r
+
 -- what is left is what some entries count, isotope by isotope
 abbrev pub Counts : (left : Isotope → ℕ) → List Entry → Type 0
 Counts left es = (i : Isotope) → left i ≡ total i es
+
+-- the first n of the atoms that a region shows are tallied
+abbrev pub Tallied : (region : List ℕ) → (atoms n : ℕ) → (left : Isotope → ℕ) → Type 0
+Tallied region atoms n left = (listed : List Atom) → length listed ≡ atoms → region ≡ kindsRegion listed → all (atomOk 103) listed ≡ true → Counts left (entriesOf (take n listed))
 
 abbrev pub Says : Bool → Type 0 → Type 0
 Says true P = P
@@ -57,3 +65,6 @@ Says false P = P → ⊥
 abbrev pub Answers : (k : ℕ) → (left : Isotope → ℕ) → Option (List Told) → Bool → Type 0
 Answers k left none r = r ≡ false
 Answers k left (some cs) r = all (entryFine k) (entriesFrom k (some cs)) ≡ true → Says r (Counts left (entriesFrom k (some cs)))
+
+pub record Answered (k : ℕ) (left : Isotope → ℕ) (o : Option (List Told)) (r : Bool) : Type 0 where
+  pub is : Answers k left o r

@@ -7,5 +7,6 @@ pub mod Shows
 pub mod Keyed
 pub mod Values
 pub mod Left
+pub mod Taking
 pub mod Published
 pub mod Members

@@ -7,9 +7,27 @@ ghost use mathlib.Core.List.{List, []};
 ghost use Prim.Native.Nat.{ℕ, _+_, _<_, _≤_};
 ghost use lib.ListN.{length, getD, set, drop};
 ghost use Rattle.lists.specs.Lists.{all};
-ghost use Rattle.format.specs.Structure.{Atom, Isotope, isotopeOf, entry, entriesOf, atomOk, total};
+ghost use Rattle.format.specs.Formula.{finish, formulaShape};
+ghost use Rattle.format.specs.Structure.{Atom, atomOk, isotopeOf, isotope, entry, entriesOf, agree};
+ghost use Rattle.scan.specs.ShownSymbols.{symOfMark};
+ghost use Rattle.rows.specs.Machine.{stateShown, Sized};
 ghost use Rattle.reader.specs.Regions.{kindsRegion};
-ghost use Rattle.reader.specs.Left.{leftOf, isZero, Blank, Adds, Takes, Counts, Says, cellOf};
+ghost use Rattle.reader.specs.Progress.{entriesFrom, entryFine};
+ghost use Rattle.reader.specs.Taking.{TookByte};
+ghost use Rattle.reader.specs.Left.{leftOf, isZero, Blank, Adds, Takes, Took, Counts, Says, Tallied, Answered, cellOf};
+use rows::elements::isotope_of;
+use rows::formula::Close;
+use rows::formula::Move;
+use rows::formula::State;
+use rows::formula::formula_end;
+use rows::formula::formula_step;
+use scan::symbols::Mark;
+
+// The machine behind a byte, the entry taken that ended there; or that an entry asks for more than is left.
+pub enum Taken {
+    On(State),
+    Short,
+}
 
 // So many more of an element without mass.
 fn add(counts: &mut [u32], element: u32, number: u32)
@@ -47,6 +65,19 @@ fn tally_atom(
     }
     elements[place] = element;
     masses[place] = mass;
+}
+
+// The atoms are tallied, "with implied hydrogens counted as hydrogen without mass".
+fn tally(kinds: &[u32], atoms: usize, counts: &mut [u32], elements: &mut [u32], masses: &mut [u32])
+    requires { ⌜ (length (now kinds) ≡ 768) × (atoms ≤ 256) × (length (now counts) ≡ 104) × (length (now elements) ≡ 256) × (length (now masses) ≡ 256) × Blank (now counts) × Blank (now masses) ⌝ }
+    ensures { λ _. ⌜ (length (now (counts .exit)) ≡ 104) × (length (now (elements .exit)) ≡ 256) × (length (now (masses .exit)) ≡ 256) × Tallied (now (kinds .entry)) atoms atoms (leftOf (now (counts .exit)) (now (elements .exit)) (now (masses .exit))) ⌝ }
+{
+    let mut i = 0;
+    while i < atoms {
+        add(counts, 1, kinds[3 * i + 2]);
+        tally_atom(i, kinds[3 * i], kinds[3 * i + 1], counts, elements, masses);
+        i += 1;
+    }
 }
 
 // Takes the atom of a cell where it is of an element and a mass: 1 where it is, else 0.
@@ -91,7 +122,7 @@ fn take(
     masses: &mut [u32],
 ) -> bool
     requires { ⌜ (length (now counts) ≡ 104) × (length (now elements) ≡ 256) × (length (now masses) ≡ 256) ⌝ }
-    ensures { λ r. ⌜ (length (now (counts .exit)) ≡ 104) × (length (now (masses .exit)) ≡ 256) × (element ≤ 103 → Takes (leftOf (now (counts .entry)) (now (elements .entry)) (now (masses .entry))) (leftOf (now (counts .exit)) (now (elements .entry)) (now (masses .exit))) (entry (isotopeOf element mass) count) r) ⌝ }
+    ensures { λ r. ⌜ (length (now (counts .exit)) ≡ 104) × (length (now (masses .exit)) ≡ 256) × (element ≤ 103 → Took (leftOf (now (counts .entry)) (now (elements .entry)) (now (masses .entry))) (leftOf (now (counts .exit)) (now (elements .entry)) (now (masses .exit))) (entry (isotopeOf element mass) count) r) ⌝ }
 {
     if mass != 0 {
         return strike(element, mass, count, elements, masses);
@@ -129,4 +160,113 @@ fn none_left(counts: &[u32], masses: &[u32]) -> bool
         return false;
     }
     all_zero(masses)
+}
+
+// Takes an entry of the formula from what is left; no where that is too little.
+fn take_entry(
+    mark: Mark,
+    count: u32,
+    last: u32,
+    counts: &mut [u32],
+    elements: &[u32],
+    masses: &mut [u32],
+) -> bool
+    requires { ⌜ (last ≤ 103) × (length (now counts) ≡ 104) × (length (now elements) ≡ 256) × (length (now masses) ≡ 256) ⌝ }
+    ensures { λ r. ⌜ (length (now (counts .exit)) ≡ 104) × (length (now (masses .exit)) ≡ 256) × (entryFine last (entry (isotope last (symOfMark mark)) count) ≡ true → Took (leftOf (now (counts .entry)) (now (elements .entry)) (now (masses .entry))) (leftOf (now (counts .exit)) (now (elements .entry)) (now (masses .exit))) (entry (isotope last (symOfMark mark)) count) r) ⌝ }
+{
+    let isotope = isotope_of(mark, last);
+    take(
+        isotope.element,
+        isotope.mass,
+        count,
+        counts,
+        elements,
+        masses,
+    )
+}
+
+// One byte more of the formula.
+fn take_byte(
+    state: State,
+    byte: u8,
+    last: u32,
+    counts: &mut [u32],
+    elements: &[u32],
+    masses: &mut [u32],
+) -> Taken
+    requires { ⌜ (last ≤ 103) × (length (now counts) ≡ 104) × (length (now elements) ≡ 256) × (length (now masses) ≡ 256) ⌝ }
+    ensures { λ r. ⌜ (length (now (counts .exit)) ≡ 104) × (length (now (masses .exit)) ≡ 256) × (Sized state → TookByte last (leftOf (now (counts .entry)) (now (elements .entry)) (now (masses .entry))) (leftOf (now (counts .exit)) (now (elements .entry)) (now (masses .exit))) state byte r) ⌝ }
+{
+    match formula_step(state, byte) {
+        Move::Still(next) => Taken::On(next),
+        Move::Tells(mark, count, next) => {
+            if take_entry(mark, count, last, counts, elements, masses) {
+                return Taken::On(next);
+            }
+            Taken::Short
+        }
+    }
+}
+
+// The end of the formula: an entry that runs ends there, and nothing may be left. A value that has no shape agrees with no atoms.
+fn take_end(
+    state: State,
+    last: u32,
+    counts: &mut [u32],
+    elements: &[u32],
+    masses: &mut [u32],
+) -> bool
+    requires { ⌜ (last ≤ 103) × (length (now counts) ≡ 104) × (length (now elements) ≡ 256) × (length (now masses) ≡ 256) ⌝ }
+    ensures { λ r. ⌜ Answered last (leftOf (now (counts .entry)) (now (elements .entry)) (now (masses .entry))) (finish (stateShown state)) r ⌝ }
+{
+    match formula_end(state) {
+        Close::Unshaped => false,
+        Close::Nothing => none_left(counts, masses),
+        Close::Last(mark, count) => {
+            if take_entry(mark, count, last, counts, elements, masses) {
+                return none_left(counts, masses);
+            }
+            false
+        }
+    }
+}
+
+// Takes the whole formula from what is left: whether each entry finds its atoms and nothing is left behind the last.
+fn take_formula(
+    formula: &[u8],
+    last: u32,
+    counts: &mut [u32],
+    elements: &[u32],
+    masses: &mut [u32],
+) -> bool
+    requires { ⌜ (last ≤ 103) × (length (now counts) ≡ 104) × (length (now elements) ≡ 256) × (length (now masses) ≡ 256) ⌝ }
+    ensures { λ r. ⌜ Answered last (leftOf (now (counts .entry)) (now (elements .entry)) (now (masses .entry))) (formulaShape (now (formula .entry))) r ⌝ }
+{
+    let mut state = State::Between(false);
+    let mut i = 0;
+    while i < formula.len() {
+        match take_byte(state, formula[i], last, counts, elements, masses) {
+            Taken::On(next) => {
+                state = next;
+            }
+            Taken::Short => {
+                return false;
+            }
+        }
+        i += 1;
+    }
+    take_end(state, last, counts, elements, masses)
+}
+
+// Whether formula and atoms agree: "for every element and mass, the formula's total over all fragments equals the atoms listed". `formula` is MOLFORM's value
+// without its comment; `kinds` has element, mass and implied hydrogens of each atom.
+pub fn agrees(formula: &[u8], kinds: &[u32], atoms: usize, last: u32) -> bool
+    requires { ⌜ (length (now kinds) ≡ 768) × (0 < atoms) × (atoms ≤ 256) × (last ≤ 103) ⌝ }
+    ensures { λ r. ⌜ ((listed : List Atom) → length listed ≡ atoms → now (kinds .entry) ≡ kindsRegion listed → all (atomOk last) listed ≡ true → all (entryFine last) (entriesFrom last (formulaShape (now (formula .entry)))) ≡ true → r ≡ agree (entriesFrom last (formulaShape (now (formula .entry)))) (entriesOf listed)) ⌝ }
+{
+    let mut counts = [0u32; 104];
+    let mut elements = [0u32; 256];
+    let mut masses = [0u32; 256];
+    tally(kinds, atoms, &mut counts, &mut elements, &mut masses);
+    take_formula(formula, last, &mut counts, &elements, &mut masses)
 }

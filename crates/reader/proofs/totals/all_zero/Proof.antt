@@ -1,3 +1,4 @@
+-- `reader::totals::all_zero` meets its contract. Assumes nothing.
 use Prim.Native.Nat.{_-_}
 use mathlib.Core.Path.{_≡_, refl, sym, _∙_}
 use borrow.Author.Needs.{needs}
@@ -8,8 +9,6 @@ use Rattle.lists.proofs.ListLaws.{all-step, all-miss, all-end}
 use Rattle.reader.specs.Left.{isZero}
 use Rattle.reader.proofs.totals.all_zero.Statement.{statement}
 use Rattle.reader.proofs.totals.all_zero.Tie as tie
-use Rattle.reader.proofs.totals.all_zero.Reads as reads
-use Rattle.reader.proofs.totals.all_zero.Lts as lts
 
 abbrev Inv-loop : tie.InvT-loop
 Inv-loop cells i₀ i = all isZero cells ≡ all isZero (drop i cells)
@@ -17,35 +16,27 @@ Inv-loop cells i₀ i = all isZero cells ≡ all isZero (drop i cells)
 abbrev μ-loop : tie.MeasureT-loop
 μ-loop cells i₀ i = length cells - i
 
--- src/totals.rt:101:5
 loop-holds : tie.Need-loop-holds Inv-loop μ-loop
 loop-holds c = refl
 
--- src/totals.rt:102:12
 mul-if1 : tie.Need-mul-if1 Inv-loop μ-loop
 mul-if1 c = search needs
 
--- src/totals.rt:102:12
 shared-slice-read-if1 : tie.Need-shared-slice-read-if1 Inv-loop μ-loop
 shared-slice-read-if1 c = search needs
 
--- src/totals.rt:103:13
 returns : tie.Need-returns Inv-loop μ-loop
 returns c = sym (c .before .before .before .loop .inv ∙ all-miss isZero 0 _ _ (c .before .before .loop-test .taken) (ne-eqb _ _ (c .if1 .taken)))
 
--- src/totals.rt:105:9
 add-i : tie.Need-add-i Inv-loop μ-loop
 add-i c = search needs
 
--- src/totals.rt:101:5
 loop-less : tie.Need-loop-less Inv-loop μ-loop
 loop-less c = search needs
 
--- src/totals.rt:101:5
 loop-again : tie.Need-loop-again Inv-loop μ-loop
 loop-again c = c .before .before .before .loop .inv ∙ all-step isZero 0 _ _ (c .before .before .loop-test .taken) (eq-eqb _ _ (c .if1 .left))
 
--- src/totals.rt:97:1
 returns-2 : tie.Need-returns-2 Inv-loop μ-loop
 returns-2 c = sym (c .before .loop .inv ∙ all-end isZero _ _ (c .loop-test .left))
 

@@ -1,26 +1,20 @@
+-- `reader::totals::none_left` meets its contract. Assumes nothing.
 use mathlib.Core.Path.{sym, _∙_}
 use borrow.Author.Tests.{not-true, not-false}
 use Rattle.reader.proofs.LeftLaws.{count-left, mass-left}
 use borrow.Author.Needs.{needs}
 use Rattle.reader.proofs.totals.none_left.Statement.{statement}
 use Rattle.reader.proofs.totals.none_left.Tie as tie
-use Rattle.reader.proofs.totals.none_left.Reads as reads
-use Rattle.reader.proofs.totals.none_left.Lts as lts
-use Rattle.reader.proofs.totals.all_zero.Reads as all-zero-reads
 
--- src/totals.rt:114:9
 all-zero-requires : tie.Need-all-zero-requires
 all-zero-requires c κs = search needs
 
--- src/totals.rt:115:9
 returns : tie.Need-returns
 returns c = λ es l. count-left (c .before .before .before .before .args .counts .now) es (c .before .before .before .before .args .masses .now) (sym (c .before .all-zero .ensures) ∙ not-true _ (c .if1 .taken))
 
--- src/totals.rt:117:5
 all-zero-requires-2 : tie.Need-all-zero-requires-2
 all-zero-requires-2 c κs = search needs
 
--- src/totals.rt:111:1
 returns-2 : tie.Need-returns-2
 returns-2 c = let e = c .before in let x = e .before .before .before .before .args in λ es l. mass-left (x .counts .now) es (x .masses .now) (sym (e .before .all-zero .ensures) ∙ not-false _ (e .if1 .left)) l _ (c .all-zero2 .ensures)
 

@@ -1,3 +1,4 @@
+-- `reader::totals::strike` meets its contract. Assumes nothing.
 use Prim.Native.Nat.{_-_, _<_, _≤_}
 use mathlib.Core.Path.{_≡_}
 use native.Mathlib.Omega.{arith}
@@ -7,9 +8,6 @@ use Rattle.format.specs.Structure.{isotopeOf}
 use Rattle.reader.proofs.StrikeLaws.{Striking, strike-starts, strike-goes, strike-done, strike-ends}
 use Rattle.reader.proofs.totals.strike.Statement.{statement}
 use Rattle.reader.proofs.totals.strike.Tie as tie
-use Rattle.reader.proofs.totals.strike.Reads as reads
-use Rattle.reader.proofs.totals.strike.Lts as lts
-use Rattle.reader.proofs.totals.strike_cell.Reads as strike-cell-reads
 
 abbrev Inv-loop : tie.InvT-loop
 Inv-loop element mass count elements masses₀ owed₀ place₀ masses owed place = (place ≤ 256) × (owed ≤ count) × (length masses ≡ 256) × (0 < mass → Striking elements masses₀ (isotopeOf element mass) count masses owed place)
@@ -17,43 +15,33 @@ Inv-loop element mass count elements masses₀ owed₀ place₀ masses owed plac
 abbrev μ-loop : tie.MeasureT-loop
 μ-loop element mass count elements masses₀ owed₀ place₀ masses owed place = 256 - place
 
--- src/totals.rt:67:5
 loop-holds : tie.Need-loop-holds Inv-loop μ-loop
 loop-holds c = (omega arith, omega arith, search needs, λ h. strike-starts _ _ _ _)
 
--- src/totals.rt:69:13
 same-length : tie.Need-same-length Inv-loop μ-loop
 same-length c = search needs
 
--- src/totals.rt:69:13
 returns : tie.Need-returns Inv-loop μ-loop
 returns c = let l = c .before .before .loop in (search needs, λ h. strike-done _ _ _ _ _ _ _ (l .inv .3 h) h (l .inv .1) (c .if1 .taken))
 
--- src/totals.rt:71:23
 strike-cell-requires : tie.Need-strike-cell-requires Inv-loop μ-loop
 strike-cell-requires c κs = search needs
 
--- src/totals.rt:71:16
 sub-owed : tie.Need-sub-owed Inv-loop μ-loop
 sub-owed c = omega arith
 
--- src/totals.rt:72:9
 add-place : tie.Need-add-place Inv-loop μ-loop
 add-place c = search needs
 
--- src/totals.rt:67:5
 loop-less : tie.Need-loop-less Inv-loop μ-loop
 loop-less c = search needs
 
--- src/totals.rt:67:5
 loop-again : tie.Need-loop-again Inv-loop μ-loop
 loop-again c = let s = c .before .before in let l = s .before .before .before .before .loop in (omega arith, omega arith, search needs, λ h. strike-goes _ _ _ _ _ _ _ (l .inv .3 h) h (l .inv .1) _ _ (omega arith) (omega arith) (omega arith) (s .strike-cell .ensures .2) (s .strike-cell .ensures .3) (s .strike-cell .ensures .4 h))
 
--- src/totals.rt:61:1
 same-length-2 : tie.Need-same-length-2 Inv-loop μ-loop
 same-length-2 c = search needs
 
--- src/totals.rt:61:1
 returns-2 : tie.Need-returns-2 Inv-loop μ-loop
 returns-2 c = let l = c .before .loop in (search needs, λ h. strike-ends _ _ _ _ _ _ _ (l .inv .3 h) h (l .inv .1) (omega arith))
 

@@ -1,3 +1,4 @@
+-- `reader::totals::strike_cell` meets its contract. Assumes nothing.
 use Prim.Native.Nat.{_+_}
 use mathlib.Core.Path.{refl}
 use native.Mathlib.Omega.{arith}
@@ -7,46 +8,34 @@ use Rattle.reader.proofs.StrikeLaws.{cell-mass, cell-element, cell-own,
 use borrow.Author.Needs.{needs}
 use Rattle.reader.proofs.totals.strike_cell.Statement.{statement}
 use Rattle.reader.proofs.totals.strike_cell.Tie as tie
-use Rattle.reader.proofs.totals.strike_cell.Reads as reads
-use Rattle.reader.proofs.totals.strike_cell.Lts as lts
 
--- src/totals.rt:50:8
 mul-if1 : tie.Need-mul-if1
 mul-if1 c = search needs
 
--- src/totals.rt:50:8
 slice-read-if1 : tie.Need-slice-read-if1
 slice-read-if1 c = search needs
 
--- src/totals.rt:51:9
 returns : tie.Need-returns
 returns c = let x = c .before .before .args in (omega arith, search needs, refl, cell-mass (x .elements .now) (x .masses .now) (x .place) (x .element) (x .mass) (c .if1 .taken), λ z cs. takes-none _ _)
 
--- src/totals.rt:53:8
 mul-if2 : tie.Need-mul-if2
 mul-if2 c = search needs
 
--- src/totals.rt:53:8
 shared-slice-read-if2 : tie.Need-shared-slice-read-if2
 shared-slice-read-if2 c = search needs
 
--- src/totals.rt:54:9
 returns-2 : tie.Need-returns-2
 returns-2 c = let x = c .before .before .before .before .args in (omega arith, search needs, refl, cell-element (x .elements .now) (x .masses .now) (x .place) (x .element) (x .mass) (c .if2 .taken), λ z cs. takes-none _ _)
 
--- src/totals.rt:56:5
 mul-masses : tie.Need-mul-masses
 mul-masses c = search needs
 
--- src/totals.rt:56:5
 slice-write-masses : tie.Need-slice-write-masses
 slice-write-masses c = search needs
 
--- src/totals.rt:46:1
 same-length : tie.Need-same-length
 same-length c = search needs
 
--- src/totals.rt:46:1
 returns-3 : tie.Need-returns-3
 returns-3 c = let m = c .before .before in let x = m .before .before .args in (omega arith, search needs, drop-set-lt (x .place + 1) (x .masses .now) (x .place) 0 (omega arith), cell-own (x .elements .now) (x .masses .now) (x .place) (x .element) (x .mass) (m .if1 .left) (c .if2 .left), cell-struck (x .elements .now) (x .masses .now) (x .place) (x .element) (x .mass) (m .if1 .left) (c .if2 .left) (omega arith) (omega arith))
 

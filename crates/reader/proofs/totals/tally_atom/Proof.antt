@@ -1,3 +1,4 @@
+-- `reader::totals::tally_atom` meets its contract. Assumes nothing.
 use mathlib.Core.Path.{refl}
 use native.Mathlib.Omega.{arith}
 use Rattle.reader.proofs.LeftLaws.{heavy-added}
@@ -5,47 +6,34 @@ use Rattle.reader.proofs.TallyLaws.{atom-light, later-same}
 use borrow.Author.Needs.{needs}
 use Rattle.reader.proofs.totals.tally_atom.Statement.{statement}
 use Rattle.reader.proofs.totals.tally_atom.Tie as tie
-use Rattle.reader.proofs.totals.tally_atom.Reads as reads
-use Rattle.reader.proofs.totals.tally_atom.Lts as lts
-use Rattle.reader.proofs.totals.add.Reads as add-reads
 
--- src/totals.rt:38:9
 add-requires : tie.Need-add-requires
 add-requires c κs = search needs
 
--- src/totals.rt:39:9
 same-length : tie.Need-same-length
 same-length c = search needs
 
--- src/totals.rt:39:9
 returns : tie.Need-returns
 returns c = let t = c .before .before .before .before in let x = t .before .before .before .before .args in (search needs, search needs, search needs, λ n h. refl, λ h k z. atom-light (x .counts .now) _ (x .elements .now) (x .masses .now) (x .element) (x .mass) (omega arith) (t .if1 .taken) (c .before .before .add .ensures .1) h k)
 
--- src/totals.rt:41:5
 mul-elements : tie.Need-mul-elements
 mul-elements c = search needs
 
--- src/totals.rt:41:5
 slice-write-elements : tie.Need-slice-write-elements
 slice-write-elements c = search needs
 
--- src/totals.rt:42:5
 mul-masses : tie.Need-mul-masses
 mul-masses c = search needs
 
--- src/totals.rt:42:5
 slice-write-masses : tie.Need-slice-write-masses
 slice-write-masses c = search needs
 
--- src/totals.rt:33:1
 same-length-2 : tie.Need-same-length-2
 same-length-2 c = search needs
 
--- src/totals.rt:33:1
 same-length-3 : tie.Need-same-length-3
 same-length-3 c = search needs
 
--- src/totals.rt:33:1
 returns-2 : tie.Need-returns-2
 returns-2 c = let x = c .before .before .before .before .args in (search needs, search needs, search needs, later-same (x .masses .now) (x .place) (x .mass), λ h k z. heavy-added (x .counts .now) (x .elements .now) (x .masses .now) (x .place) (x .element) (x .mass) (omega arith) (omega arith) z (omega arith))
 
