@@ -3,4 +3,5 @@ pub mod Worked
 pub mod Refused
 pub mod Stretches
 pub mod WayBackLines
+pub mod WayBackLabels
 pub mod Demands
