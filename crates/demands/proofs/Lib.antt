@@ -4,4 +4,6 @@ pub mod Refused
 pub mod Stretches
 pub mod WayBackLines
 pub mod WayBackLabels
+pub mod WayBackTexts
+pub mod WayBackRows
 pub mod Demands

@@ -1,20 +1,23 @@
 -- The way back, the labels: each label as it is written is read as the known label, its value being what follows; and which of them stand in order behind which.
 -- Serves document 01, demand 2; the labels' order is that of "The one written form". Assumes nothing.
-use Prim.Native.Nat.{ℕ}
+use Prim.Native.Nat.{ℕ, _+_, _-_}
 use mathlib.Core.Path.{_≡_, refl, sym, ap, _∙_}
 use mathlib.Core.Bool.{Bool, true, false, not, _&&_, _||_}
 use mathlib.Core.List.{List, [], _∷_, _++_}
+use native.Mathlib.Omega.{arith}
+use lib.ListN.{length, length-append}
 use lib.Dec.{eqb, ltb}
 use borrow.Author.Tests.{not-true}
-use Rattle.lists.specs.Lists.{all, any}
+use Rattle.lists.specs.Lists.{isNil, all, any}
 use Rattle.lists.proofs.Bools.{not-of-false}
-use Rattle.lists.proofs.ListLaws.{all-parts, all-both, all-nil, any-neither, any-cons, any-imply}
+use Rattle.lists.proofs.ListLaws.{all-parts, all-both, all-nil, all-append-both, any-neither, any-cons, any-imply}
 use Rattle.format.specs.Bytes.{Bytes, bytes, allowed}
-use Rattle.format.specs.Labels.{ListOf, Bonds, Charges, Radicals, Centres, Pairs, Text, Version, Formula, BlockId, Atoms, Rows, End, Label, label, misplaced, Labelled, lineOf, titleLine}
-use Rattle.format.specs.Reading.{lacks}
+use Rattle.format.specs.Labels.{ListOf, Bonds, Charges, Radicals, Centres, Pairs, Holds, Text, Version, Formula, BlockId, Atoms, Rows, End, Label, label, misplaced, Labelled, lineOf, titleLine}
+use Rattle.format.specs.Reading.{Rules, State, lacks, over, noted, opened, valueTurn, lineStep}
 use Rattle.format.specs.Writing.{listLabel}
 use Rattle.format.proofs.CutLaws.{feedless}
 use Rattle.format.proofs.Computing.{computing}
+use Rattle.demands.proofs.WayBackLines.{stateOf, label-step}
 
 abbrev pub titleLabel : Label
 titleLabel = label "TITLE" (Text 0) 1 1 1
@@ -145,3 +148,17 @@ lacks-more y seen c h = go (eqb (y .code) c) refl
 
 pub had-more : (y : Label) (seen : List Label) (cs : List ℕ) → any (lacks seen) cs ≡ false → any (lacks (y ∷ seen)) cs ≡ false
 had-more y seen cs h = any-imply (lacks seen) (lacks (y ∷ seen)) (lacks-more y seen) cs h
+
+-- THE STEP of a label line as it is written: its value's turn, the label among the seen
+pub noted-known : (c : ℕ) (x : Label) (seen : List Label) → eqb c 0 ≡ false → noted c x seen ≡ x ∷ seen
+noted-known c x seen e = rw (e, noted)
+
+module _ (u : Rules) (st : State) (h : Bytes) (x : Label) (w : Written h x) (begun : isNil (st .seen) ≡ false) (m : misplaced (st .seen) x ≡ false) (o : over (st .running) ≡ false) where
+  pub label-value : (held : Holds) → x .holds ≡ held → eqb (x .code) 0 ≡ false → (v : Bytes) → all allowed v ≡ true →
+      lineStep u st (h ++ v) ≡ valueTurn u held (stateOf (st .at) (x ∷ st .seen) held (st .texts) (st .formula) (st .body)) (st .at + length h) v
+  label-value held e c v a =
+      let n : length (h ++ v) - length v ≡ length h = omega (arith, length-append h v) in
+      label-step u st (h ++ v) (all-append-both allowed h v (w .fine) a) begun x v (w .read v) m o
+      ∙ ap (λ (k : ℕ). valueTurn u (x .holds) (opened st x) (st .at + k) v) n
+      ∙ ap (λ (l : List Label). valueTurn u (x .holds) (stateOf (st .at) l (x .holds) (st .texts) (st .formula) (st .body)) (st .at + length h) v) (noted-known (x .code) x (st .seen) c)
+      ∙ ap (λ (k : Holds). valueTurn u k (stateOf (st .at) (x ∷ st .seen) k (st .texts) (st .formula) (st .body)) (st .at + length h) v) e
