@@ -3,4 +3,7 @@ pub mod Worked
 pub mod Refused
 pub mod Stretches
 pub mod WayBackLines
+pub mod WayBackLabels
+pub mod WayBackTexts
+pub mod WayBackRows
 pub mod Demands

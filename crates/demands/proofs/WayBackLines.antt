@@ -39,6 +39,9 @@ module _ (u : Rules) where
   pub through-both : (a b c : State) (r s : Bytes) → Through u a r b → Through u b s c → Through u a (r ++ s) c
   through-both a b c r s p q rest = ap (λ (t : Bytes). readLines u a (cut t)) (append-assoc r s rest) ∙ p (s ++ rest) ∙ q rest
 
+  pub through-to : (st a b : State) (r : Bytes) → a ≡ b → Through u st r a → Through u st r b
+  through-to st a b r e go rest = go rest ∙ ap (λ (x : State). readLines u x (cut rest)) e
+
   pub through-line : (st next : State) (l : Bytes) → full l ≡ true → lineStep u st l ≡ Go next → Through u st l (past l next)
   through-line st next l f e rest = ap (readLines u st) (cut-line l rest f) ∙ read-go u st next l (cut rest) e
 
