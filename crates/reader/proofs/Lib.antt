@@ -27,3 +27,5 @@ pub mod AtomLaws
 pub mod KindLaws
 pub mod AtomPartLaws
 pub mod KeyedLines
+pub mod LineTurnLaws
+pub mod StepTurnLaws

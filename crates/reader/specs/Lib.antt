@@ -10,3 +10,4 @@ pub mod Left
 pub mod Taking
 pub mod Published
 pub mod Members
+pub mod Lines
