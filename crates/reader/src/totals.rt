@@ -200,10 +200,10 @@ fn take_byte(
     match formula_step(state, byte) {
         Move::Still(next) => Taken::On(next),
         Move::Tells(mark, count, next) => {
-            if take_entry(mark, count, last, counts, elements, masses) {
-                return Taken::On(next);
+            if !take_entry(mark, count, last, counts, elements, masses) {
+                return Taken::Short;
             }
-            Taken::Short
+            Taken::On(next)
         }
     }
 }

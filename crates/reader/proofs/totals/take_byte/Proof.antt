@@ -2,6 +2,7 @@
 use Rattle.reader.specs.Left.{leftOf}
 use Rattle.reader.proofs.AnswerLaws.{byte-still, byte-taken, byte-short}
 use borrow.Author.Needs.{needs}
+use borrow.Author.Tests.{not-true, not-false}
 use Rattle.reader.proofs.totals.take_byte.Statement.{statement}
 use Rattle.reader.proofs.totals.take_byte.Tie as tie
 
@@ -24,7 +25,7 @@ same-length-2 : tie.Need-same-length-2
 same-length-2 c = search needs
 
 returns : tie.Need-returns
-returns c = let t = c .before .before .before .before .before in let m = t .before .before .before .before in let s = m .before .before in let x = s .before .before .before .before .args in (t .take-entry .ensures .0, t .take-entry .ensures .1, λ fine. byte-taken (x .last) (x .byte) (leftOf (x .counts .now) (x .elements .now) (x .masses .now)) (x .state) _ (s .formula-step .ensures) fine _ _ _ (m .mark .given .1) _ _ (t .take-entry .ensures .2) (c .if1 .taken))
+returns c = let t = c .before .before .before .before .before in let m = t .before .before .before .before in let s = m .before .before in let x = s .before .before .before .before .args in (t .take-entry .ensures .0, t .take-entry .ensures .1, λ fine. byte-short (x .last) (x .byte) (leftOf (x .counts .now) (x .elements .now) (x .masses .now)) (x .state) _ (s .formula-step .ensures) fine _ _ _ (m .mark .given .1) _ _ (t .take-entry .ensures .2) (not-true _ (c .if1 .taken)))
 
 returns-2 : tie.Need-returns-2
 returns-2 c = let s = c .before .before .before in let x = s .before .before .before .before .args in (search needs, search needs, λ fine. byte-still (x .last) (x .byte) (leftOf (x .counts .now) (x .elements .now) (x .masses .now)) (x .state) _ (s .formula-step .ensures) fine _ (c .before .next .given .1))
@@ -36,7 +37,7 @@ same-length-4 : tie.Need-same-length-4
 same-length-4 c = search needs
 
 returns-3 : tie.Need-returns-3
-returns-3 c = let t = c .before .before .before .before .before in let m = t .before .before .before .before in let s = m .before .before in let x = s .before .before .before .before .args in (t .take-entry .ensures .0, t .take-entry .ensures .1, λ fine. byte-short (x .last) (x .byte) (leftOf (x .counts .now) (x .elements .now) (x .masses .now)) (x .state) _ (s .formula-step .ensures) fine _ _ _ (m .mark .given .1) _ _ (t .take-entry .ensures .2) (c .if1 .left))
+returns-3 c = let t = c .before .before .before .before .before in let m = t .before .before .before .before in let s = m .before .before in let x = s .before .before .before .before .args in (t .take-entry .ensures .0, t .take-entry .ensures .1, λ fine. byte-taken (x .last) (x .byte) (leftOf (x .counts .now) (x .elements .now) (x .masses .now)) (x .state) _ (s .formula-step .ensures) fine _ _ _ (m .mark .given .1) _ _ (t .take-entry .ensures .2) (not-false _ (c .if1 .left)))
 
 pub take-byte-spec : {M : Type 1} → statement M
 take-byte-spec =
