@@ -6,4 +6,6 @@ pub mod WayBackLines
 pub mod WayBackLabels
 pub mod WayBackTexts
 pub mod WayBackRows
+pub mod WayBackAtoms
+pub mod WayBackFormula
 pub mod Demands
