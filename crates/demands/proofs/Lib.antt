@@ -8,4 +8,5 @@ pub mod WayBackTexts
 pub mod WayBackRows
 pub mod WayBackAtoms
 pub mod WayBackFormula
+pub mod WayBackRecords
 pub mod Demands

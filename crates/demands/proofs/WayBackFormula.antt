@@ -8,17 +8,18 @@ use mathlib.Core.List.{List, [], _∷_, _++_, map}
 use native.Mathlib.Omega.{arith}
 use lib.ListN.{length, length-append}
 use lib.Dec.{eqb, leb, ltb}
-use borrow.Author.Tests.{le-leb, leb-true, lt-ltb, ltb-true}
+use borrow.Author.Tests.{le-leb, leb-true, not-true}
 use Rattle.lists.specs.Lists.{isNil, all, any}
 use Rattle.lists.specs.Order.{sort}
 use Rattle.lists.proofs.Bools.{torn, and-parts, and-both}
-use Rattle.lists.proofs.ListLaws.{all-nil, all-parts, all-both, any-nil, any-neither, any-hit, any-miss, any-later}
+use Rattle.lists.proofs.ListLaws.{all-nil, all-parts, all-both, any-nil, any-neither, any-hit, any-miss, any-later, any-all, all-imply}
+use Rattle.lists.proofs.PartLaws.{all-map, any-map}
 use Rattle.lists.proofs.SortLaws.{sort-all, sort-length}
-use Rattle.format.specs.Bytes.{Bytes, bytes, within}
+use Rattle.format.specs.Bytes.{Bytes, bytes, within, strip}
 use Rattle.format.specs.Labels.{Holds, Formula, Label, label, misplaced}
-use Rattle.format.specs.Formula.{Counted, counted}
+use Rattle.format.specs.Formula.{Counted, counted, formulaShape}
 use Rattle.format.specs.Structure.{Isotope, isotopeOf, isotope, unknown, massOk, Atom, Entry, entry, entriesOf, sameIsotope, total, kinds, Structure, atomOk}
-use Rattle.format.specs.Reading.{Rules, State, Turn, Go, Stop, if_stop_else_, Prose, over, formulaTurn, valueTurn, lineStep}
+use Rattle.format.specs.Reading.{Rules, State, Turn, Go, Stop, if_stop_else_, Prose, over, withFormula, formulaTurn, valueTurn, lineStep}
 use Rattle.format.specs.Writing.{spelt, formulaBefore, formulaOf, fragment, printFormula, valued}
 use Rattle.format.proofs.ByteLaws.{within-is, within-true}
 use Rattle.format.proofs.FieldLaws.{inline}
@@ -123,3 +124,102 @@ kinds-counted k one rest few h =
     total-at i q =
         within-is 1 9999 (total i (entriesOf rest)) (total-some i (entriesOf rest) (entries-counted rest) (sym (kinds-any i (entriesOf rest)) ∙ q))
         (omega (arith, entries-total k i rest h, few))
+
+-- SOME KINDS AS A FORMULA, in any order
+module _ (k : ℕ) (most : k ≤ 103) (es : List Entry) where
+  abbrev countedAs : Isotope → Counted
+  countedAs i = counted (spelt i) (total i es)
+
+  abbrev totalled : Isotope → Entry
+  totalled i = entry i (total i es)
+
+  kind-parts : (i : Isotope) → kindCounted k es i ≡ true → FineKind k i × (within 1 9999 (total i es) ≡ true)
+  kind-parts i h = let p : (kindOk k i ≡ true) × (within 1 9999 (total i es) ≡ true) = and-parts (kindOk k i) (within 1 9999 (total i es)) h in (kind-fine k i (p .0), p .1)
+
+  printable-at : (i : Isotope) → kindCounted k es i ≡ true → PrintableEntry (countedAs i)
+  printable-at i h =
+      let p : FineKind k i × (within 1 9999 (total i es) ≡ true) = kind-parts i h in
+      (spelt-printable i (p .0 .low) (omega (arith, p .0 .high)) (omega (arith, p .0 .mass)), omega (arith, within-true 1 9999 (total i es) (p .1) .1))
+
+  printable-all : (ks : List Isotope) → all (kindCounted k es) ks ≡ true → AllPrintable (map countedAs ks)
+  printable-all [] h = tt
+  printable-all (i ∷ ks) h = let p : (kindCounted k es i ≡ true) × (all (kindCounted k es) ks ≡ true) = all-parts (kindCounted k es) i ks h in (printable-at i (p .0), printable-all ks (p .1))
+
+  formula-read : (ks : List Isotope) → 0 < length ks → all (kindCounted k es) ks ≡ true → formulaShape (strip (valued (printFormula (fragment (map countedAs ks))))) ≡ some (map countedAs ks)
+  formula-read [] n h = absurd (omega arith)
+  formula-read (i ∷ ks) n h = let p : AllPrintable (map countedAs (i ∷ ks)) = printable-all (i ∷ ks) h in fragment-value (countedAs i) (map countedAs ks) (p .0) (p .1)
+
+  pub formula-line : (ks : List Isotope) → all (kindCounted k es) ks ≡ true → all inline (printFormula (fragment (map countedAs ks))) ≡ true
+  formula-line [] h = all-nil inline
+  formula-line (i ∷ ks) h = formula-inline (record { head = countedAs i; tail = map countedAs ks }) [] [] (printable-all (i ∷ ks) h) tt (all-nil inline)
+
+  ranges : (ks : List Isotope) → all (kindCounted k es) ks ≡ true → all (λ (c : Counted). massOk (c .symbol) && within 1 9999 (c .count)) (map countedAs ks) ≡ true
+  ranges ks h =
+      all-map (λ (c : Counted). massOk (c .symbol) && within 1 9999 (c .count)) countedAs ks
+      ∙ all-imply (kindCounted k es) (λ (i : Isotope). massOk (spelt i) && within 1 9999 (total i es))
+      (λ i q. and-both (massOk (spelt i)) (within 1 9999 (total i es)) (spelt-mass i (kind-parts i q .0 .low) (omega (arith, kind-parts i q .0 .high)) (kind-parts i q .0 .mass)) (kind-parts i q .1)) ks h
+
+  knowns : (ks : List Isotope) → all (kindCounted k es) ks ≡ true → any (λ (c : Counted). unknown k (c .symbol)) (map countedAs ks) ≡ false
+  knowns ks h =
+      any-map (λ (c : Counted). unknown k (c .symbol)) countedAs ks
+      ∙ not-true (any (λ (i : Isotope). unknown k (spelt i)) ks)
+      (any-all (λ (i : Isotope). unknown k (spelt i)) ks
+      ∙ all-imply (kindCounted k es) (λ (i : Isotope). not (unknown k (spelt i))) (λ i q. ap not (known-back k i (kind-parts i q .0 .low) (kind-parts i q .0 .high) most)) ks h)
+
+  entries-back : (ks : List Isotope) → all (kindCounted k es) ks ≡ true → map (λ (c : Counted). entry (isotope k (c .symbol)) (c .count)) (map countedAs ks) ≡ map totalled ks
+  entries-back [] h = refl
+  entries-back (i ∷ ks) h =
+      let p : (kindCounted k es i ≡ true) × (all (kindCounted k es) ks ≡ true) = all-parts (kindCounted k es) i ks h in
+      let q : isotope k (spelt i) ≡ i = isotope-back k i (kind-parts i (p .0) .0 .low) (kind-parts i (p .0) .0 .high) most in
+      ap (λ (j : Isotope). entry j (total i es) ∷ map (λ (c : Counted). entry (isotope k (c .symbol)) (c .count)) (map countedAs ks)) q
+      ∙ ap (λ (l : List Entry). totalled i ∷ l) (entries-back ks (p .1))
+
+  pub formula-taken : (st : State) (ks : List Isotope) → 0 < length ks → all (kindCounted k es) ks ≡ true →
+      formulaTurn k st (formulaShape (strip (valued (printFormula (fragment (map countedAs ks)))))) ≡ Go (withFormula st (map totalled ks))
+  unfolding formulaTurn
+  formula-taken st ks n h =
+      ap (formulaTurn k st) (formula-read ks n h)
+      ∙ rw (ranges ks h, knowns ks h) (ap (λ (l : List Entry). Go (withFormula st l)) (entries-back ks h))
+
+-- THE RECORD of the atoms' formula
+any-some : (p : Isotope → Bool) (ks : List Isotope) → any p ks ≡ true → 0 < length ks
+any-some p [] h = torn (any p []) h (any-nil p)
+any-some p (k ∷ ks) h = omega arith
+
+kinds-some : (es : List Entry) → 0 < length es → 0 < length (kinds es)
+kinds-some [] h = absurd (omega arith)
+kinds-some (e ∷ es) h = go (any (sameIsotope (e .kind)) (kinds es)) refl
+  where
+    go : (t : Bool) → any (sameIsotope (e .kind)) (kinds es) ≡ t → 0 < length (kinds (e ∷ es))
+    go true q = omega (arith, ap length (kinds-again e es q), any-some (sameIsotope (e .kind)) (kinds es) q)
+    go false q = omega (arith, ap length (kinds-new e es q))
+
+entries-some : (rest : List Atom) → 0 < length rest → 0 < length (entriesOf rest)
+entries-some [] h = absurd (omega arith)
+entries-some (a ∷ rest) h = go (a .hydrogens) refl
+  where
+    go : (n : ℕ) → a .hydrogens ≡ n → 0 < length (entriesOf (a ∷ rest))
+    go zero e = omega (arith, ap length (entries-bare a rest e))
+    go (suc m) e = omega (arith, ap length (entries-implied a rest m e))
+
+-- the atoms' kinds with their totals, as the formula has them
+abbrev pub gathered : List Atom → List Entry
+gathered atoms = map (λ j. entry j (total j (entriesOf atoms))) (sort formulaBefore (kinds (entriesOf atoms)))
+
+pub formula-through : (u : Rules) (at : ℕ) (seen : List Label) (running : Holds) (texts : List Prose) (f : List Entry) (s : Structure) (atoms : List Atom) → u .elements ≤ 103 → 1 ≤ u .elements →
+    0 < length atoms → length atoms ≤ 256 → all (atomOk (u .elements)) atoms ≡ true → isNil seen ≡ false → misplaced seen formulaLabel ≡ false → over running ≡ false →
+    Through u (stateOf at seen running texts f s) (bytes "##MOLFORM=" ++ valued (printFormula (fragment (formulaOf (entriesOf atoms)))))
+    (stateOf (at + length (bytes "##MOLFORM=" ++ valued (printFormula (fragment (formulaOf (entriesOf atoms)))))) (formulaLabel ∷ seen) Formula texts (gathered atoms) s)
+unfolding formulaOf valueTurn label
+formula-through u at seen running texts f s atoms most one filled few ok begun m o =
+    let k : ℕ = u .elements in
+    let es : List Entry = entriesOf atoms in
+    let ks : List Isotope = sort formulaBefore (kinds es) in
+    let h : all (kindCounted k es) ks ≡ true = sort-all formulaBefore (kindCounted k es) (kinds es) ∙ kinds-counted k one atoms few ok in
+    let n : 0 < length ks = omega (arith, sort-length formulaBefore (kinds es), kinds-some es (entries-some atoms filled)) in
+    let v : Bytes = printFormula (fragment (formulaOf es)) in
+    let i : all inline v ≡ true = formula-line k most es ks h in
+    let before : State = stateOf at seen running texts f s in
+    let st : State = stateOf at (formulaLabel ∷ seen) Formula texts f s in
+    through-line u before (stateOf at (formulaLabel ∷ seen) Formula texts (gathered atoms) s) (bytes "##MOLFORM=" ++ valued v) (record-full (bytes "##MOLFORM=") v (formula-written .one) i)
+    (label-value u before (bytes "##MOLFORM=") formulaLabel formula-written begun m o Formula refl refl (valued v) (valued-allowed v (inline-fine v i)) ∙ formula-taken k most es st ks n h)
