@@ -9,4 +9,5 @@ pub mod WayBackRows
 pub mod WayBackAtoms
 pub mod WayBackFormula
 pub mod WayBackRecords
+pub mod WayBackLists
 pub mod Demands
