@@ -10,4 +10,5 @@ pub mod WayBackAtoms
 pub mod WayBackFormula
 pub mod WayBackRecords
 pub mod WayBackLists
+pub mod WayBack
 pub mod Demands

@@ -101,3 +101,6 @@ span-back before (b ∷ t) rest =
     ∙ ap (λ (m : ℕ). take (suc (length t)) (drop m ((before ++ (32 ∷ [])) ++ ((b ∷ t) ++ ((10 ∷ []) ++ rest))))) n
     ∙ ap (take (suc (length t))) (drop-append-seam (before ++ (32 ∷ [])) ((b ∷ t) ++ ((10 ∷ []) ++ rest)))
     ∙ take-append-seam (b ∷ t) ((10 ∷ []) ++ rest)
+
+pub span-at : (block before t rest : Bytes) (p : ℕ) → block ≡ before ++ (valued t ++ rest) → p ≡ length before → textAt block (spanned p t) ≡ t
+span-at block before t rest p e n = ap (λ (m : ℕ). textAt block (spanned m t)) n ∙ ap (λ (b : Bytes). textAt b (spanned (length before) t)) e ∙ span-back before t rest
