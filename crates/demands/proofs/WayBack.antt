@@ -18,7 +18,7 @@ use Rattle.format.specs.Labels.{ListOf, Bonds, Charges, Radicals, Centres, Pair
 use Rattle.format.specs.Rows.{Row}
 use Rattle.format.specs.Structure.{Atom, Entry, entriesOf, Structure, rowsOf, lists, rowBefore, atomOk, rowsOk, wellFormed}
 use Rattle.format.specs.Reading.{Rules, strict, State, Prose, prose, over, lacks, readLines, start, Outcome, Accepted, finished, Span, spanOf, Reading, Read, readingOf, readBlock}
-use Rattle.format.specs.Table.{textFine, textAt}
+use Rattle.format.specs.Table.{textFine, textAt, textOk}
 use Rattle.format.specs.Writing.{formulaBefore, formulaOf, fragment, printFormula, valued, digits, printRecord, printId, printAtoms, printRows, records, canonical}
 use Rattle.format.proofs.ByteLaws.{within-true}
 use Rattle.format.proofs.RowLaws.{FineAtom, atom-fine}
@@ -27,7 +27,7 @@ use Rattle.format.proofs.Computing.{computing}
 use Rattle.demands.specs.WayBack.{ReadBack}
 use Rattle.demands.proofs.WayBackLines.{stateOf, Through, through-nil, through-to}
 use Rattle.demands.proofs.WayBackLabels.{titleLabel, versionLabel, originLabel, ownerLabel, idLabel, formulaLabel, atomsLabel, endLabel, free}
-use Rattle.demands.proofs.WayBackTexts.{spanned, span-is, span-at}
+use Rattle.demands.proofs.WayBackTexts.{spanned, span-is, Stands, span-at, span-ok}
 use Rattle.demands.proofs.WayBackRows.{sorted-back}
 use Rattle.demands.proofs.WayBackAtoms.{atoms-label, atoms-through}
 use Rattle.demands.proofs.WayBackFormula.{gathered, formula-through}
@@ -248,27 +248,35 @@ module _ (k : ℕ) (most : k ≤ 103) (s : Structure) (ok : Fine k s) (t0 t1 t2 
   spans-are : map spanOf texts ≡ spans
   spans-are = rw (span-is (0 + length (bytes "##TITLE=")) t0 f0, span-is (origin-at + length (bytes "##ORIGIN=")) t1 f1, span-is (owner-at + length (bytes "##OWNER=")) t2 f2) refl
 
-  title-back : textAt form (spanned (0 + length (bytes "##TITLE=")) t0) ≡ t0
-  title-back = span-at form (bytes "##TITLE=") t0 (version ++ (origin ++ (owner ++ texts-on))) _ (append-assoc (bytes "##TITLE=") (valued t0) _) (omega arith)
+  title-stands : Stands form (0 + length (bytes "##TITLE=")) t0
+  title-stands = record { before = bytes "##TITLE="; behind = version ++ (origin ++ (owner ++ texts-on)); is = append-assoc (bytes "##TITLE=") (valued t0) _; place = omega arith }
 
-  origin-back : textAt form (spanned (origin-at + length (bytes "##ORIGIN=")) t1) ≡ t1
-  origin-back =
-      let before : Bytes = (title ++ version) ++ bytes "##ORIGIN=" in
-      let q : form ≡ before ++ (valued t1 ++ (owner ++ texts-on)) =
-      sym (append-assoc title version (origin ++ (owner ++ texts-on))) ∙ ap (λ (r : Bytes). (title ++ version) ++ r) (append-assoc (bytes "##ORIGIN=") (valued t1) (owner ++ texts-on))
-      ∙ sym (append-assoc (title ++ version) (bytes "##ORIGIN=") _) in
-      span-at form before t1 (owner ++ texts-on) _ q (omega (arith, length-append (title ++ version) (bytes "##ORIGIN="), length-append title version))
+  origin-stands : Stands form (origin-at + length (bytes "##ORIGIN=")) t1
+  origin-stands = record {
+    before = (title ++ version) ++ bytes "##ORIGIN=";
+    behind = owner ++ texts-on;
+    is =
+        sym (append-assoc title version (origin ++ (owner ++ texts-on))) ∙ ap (λ (r : Bytes). (title ++ version) ++ r) (append-assoc (bytes "##ORIGIN=") (valued t1) (owner ++ texts-on))
+        ∙ sym (append-assoc (title ++ version) (bytes "##ORIGIN=") _);
+    place = omega (arith, length-append (title ++ version) (bytes "##ORIGIN="), length-append title version);
+  }
 
-  owner-back : textAt form (spanned (owner-at + length (bytes "##OWNER=")) t2) ≡ t2
-  owner-back =
-      let before : Bytes = ((title ++ version) ++ origin) ++ bytes "##OWNER=" in
-      let q : form ≡ before ++ (valued t2 ++ texts-on) =
-      sym (append-assoc title version (origin ++ (owner ++ texts-on))) ∙ sym (append-assoc (title ++ version) origin (owner ++ texts-on))
-      ∙ ap (λ (r : Bytes). ((title ++ version) ++ origin) ++ r) (append-assoc (bytes "##OWNER=") (valued t2) texts-on) ∙ sym (append-assoc ((title ++ version) ++ origin) (bytes "##OWNER=") _) in
-      span-at form before t2 texts-on _ q (omega (arith, length-append ((title ++ version) ++ origin) (bytes "##OWNER="), length-append (title ++ version) origin, length-append title version))
+  owner-stands : Stands form (owner-at + length (bytes "##OWNER=")) t2
+  owner-stands = record {
+    before = ((title ++ version) ++ origin) ++ bytes "##OWNER=";
+    behind = texts-on;
+    is =
+        sym (append-assoc title version (origin ++ (owner ++ texts-on))) ∙ sym (append-assoc (title ++ version) origin (owner ++ texts-on))
+        ∙ ap (λ (r : Bytes). ((title ++ version) ++ origin) ++ r) (append-assoc (bytes "##OWNER=") (valued t2) texts-on) ∙ sym (append-assoc ((title ++ version) ++ origin) (bytes "##OWNER=") _);
+    place = omega (arith, length-append ((title ++ version) ++ origin) (bytes "##OWNER="), length-append (title ++ version) origin, length-append title version);
+  }
 
   texts-back : map (textAt form) spans ≡ t0 ∷ t1 ∷ t2 ∷ []
-  texts-back = rw (title-back, origin-back, owner-back) refl
+  texts-back = rw (span-at title-stands, span-at origin-stands, span-at owner-stands) refl
+
+  texts-sound : all (textOk form) spans ≡ true
+  unfolding all
+  texts-sound = rw (span-ok title-stands f0, span-ok origin-stands f1, span-ok owner-stands f2) refl
 
   -- THE STRUCTURE: each list sorted back
   structure-back : finished (turned s) ≡ s
@@ -292,9 +300,12 @@ module _ (k : ℕ) (most : k ≤ 103) (s : Structure) (ok : Fine k s) (t0 t1 t2 
 
   pub form-back : length (canonical s (t0 ∷ t1 ∷ t2 ∷ [])) ≤ 32768 → ReadBack k s (t0 ∷ t1 ∷ t2 ∷ [])
   form-back fits = record {
-    spans = spans;
+    title = spanned (0 + length (bytes "##TITLE=")) t0;
+    origin = spanned (origin-at + length (bytes "##ORIGIN=")) t1;
+    owner = spanned (owner-at + length (bytes "##OWNER=")) t2;
     reads = ap (readBlock u) form-is ∙ form-read (omega (arith, ap length form-is));
     same-texts = ap (λ (b : Bytes). map (textAt b) spans) form-is ∙ texts-back;
+    sound-texts = ap (λ (b : Bytes). all (textOk b) spans) form-is ∙ texts-sound;
   }
 
 -- THE WAY BACK
