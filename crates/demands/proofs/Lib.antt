@@ -6,4 +6,9 @@ pub mod WayBackLines
 pub mod WayBackLabels
 pub mod WayBackTexts
 pub mod WayBackRows
+pub mod WayBackAtoms
+pub mod WayBackFormula
+pub mod WayBackRecords
+pub mod WayBackLists
+pub mod WayBack
 pub mod Demands

@@ -84,7 +84,7 @@ pub unless-some : (st : State) (fs : List Bytes) (t : Turn) → 0 < length fs �
 unless-some st [] t h = absurd (omega arith)
 unless-some st (f ∷ fs) t h = refl
 
-three : (a b c : Bool) (x y z : ℕ) (t : Turn) → a ≡ false → b ≡ false → c ≡ false → (if a stop x else if b stop y else if c stop z else t) ≡ t
+pub three : (a b c : Bool) (x y z : ℕ) (t : Turn) → a ≡ false → b ≡ false → c ≡ false → (if a stop x else if b stop y else if c stop z else t) ≡ t
 three a b c x y z t p q r = rw (p, q, r) refl
 
 module _ (l : ListOf) (at : ℕ) (seen : List Label) (texts : List Prose) (f : List Entry) (s : Structure) (n : ℕ) (acc : List Row) (count : length (s .atoms) ≡ n) (held : rowsOf l s ≡ acc)
@@ -176,7 +176,7 @@ module _ (l : ListOf) where
   seen-had [] seen cs h = h
   seen-had (r ∷ rs) seen cs h = had-more (labelOf l) seen cs h
 
-nothing-more : fields (strip (valued [])) ≡ []
+pub nothing-more : fields (strip (valued [])) ≡ []
 nothing-more = ap fields (strip-value [] (all-nil inline)) ∙ value-none
 
 -- a label line without value goes on, for the lists and for the atoms

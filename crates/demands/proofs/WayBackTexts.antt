@@ -8,15 +8,17 @@ use native.Mathlib.Omega.{arith}
 use native.Mathlib.Nat.{add-zero}
 use lib.ListN.{length, getD, set, take, drop, length-append}
 use lib.Seq.{take-append-seam, drop-append-seam}
-use lib.Dec.{eqb}
+use lib.Dec.{eqb, leb}
+use borrow.Author.Tests.{le-leb}
 use Rattle.lists.specs.Lists.{isNil, all, concat}
+use Rattle.lists.proofs.Bools.{and-both}
 use Rattle.lists.proofs.ListLaws.{all-parts, all-append-parts}
 use Rattle.lists.proofs.PartLaws.{concat-nil, concat-cons, concat-length, all-concat}
 use Rattle.format.specs.Bytes.{Bytes, allowed, cut, isLabel, lead, trim}
 use Rattle.format.specs.Labels.{Text, Label, misplaced}
 use Rattle.format.specs.Structure.{Entry, Structure}
 use Rattle.format.specs.Reading.{Rules, State, Prose, prose, Go, over, extended, valueTurn, furtherTurn, lineStep, readLines, Span, spanFrom, spanOf}
-use Rattle.format.specs.Table.{textFine, textAt}
+use Rattle.format.specs.Table.{textFine, textAt, spanOk, textOk}
 use Rattle.format.specs.Writing.{valued}
 use Rattle.format.proofs.CutLaws.{feedless}
 use Rattle.format.proofs.FieldLaws.{valued-is}
@@ -101,3 +103,26 @@ span-back before (b ∷ t) rest =
     ∙ ap (λ (m : ℕ). take (suc (length t)) (drop m ((before ++ (32 ∷ [])) ++ ((b ∷ t) ++ ((10 ∷ []) ++ rest))))) n
     ∙ ap (take (suc (length t))) (drop-append-seam (before ++ (32 ∷ [])) ((b ∷ t) ++ ((10 ∷ []) ++ rest)))
     ∙ take-append-seam (b ∷ t) ((10 ∷ []) ++ rest)
+
+-- a text that is printed in a block from a place on
+pub record Stands (block : Bytes) (p : ℕ) (t : Bytes) : Type 0 where
+  pub before : Bytes
+  pub behind : Bytes
+  pub is : block ≡ before ++ (valued t ++ behind)
+  pub place : p ≡ length before
+
+module _ {block : Bytes} {p : ℕ} {t : Bytes} (x : Stands block p t) where
+  pub span-at : textAt block (spanned p t) ≡ t
+  span-at =
+      ap (λ (m : ℕ). textAt block (spanned m t)) (x .place) ∙ ap (λ (b : Bytes). textAt b (spanned (length (x .before)) t)) (x .is) ∙ span-back (x .before) t (x .behind)
+
+  -- and a sound table may have it
+  pub span-ok : textFine t ≡ true → textOk block (spanned p t) ≡ true
+  unfolding textOk
+  span-ok fine = and-both (spanOk (spanned p t .place) (spanned p t .size) block) _ (within-block t (x .is)) (ap textFine span-at ∙ fine)
+    where
+      within-block : (v : Bytes) → block ≡ x .before ++ (valued v ++ x .behind) → spanOk (spanned p v .place) (spanned p v .size) block ≡ true
+      within-block [] e = refl
+      within-block (c ∷ v) e =
+          le-leb (p + 1 + suc (length v)) (length block)
+          (omega (arith, x .place, ap length e, length-append (x .before) (valued (c ∷ v) ++ x .behind), length-append (valued (c ∷ v)) (x .behind), ap length (valued-is (c ∷ v) (omega arith)), length-append (c ∷ v) (10 ∷ [])))

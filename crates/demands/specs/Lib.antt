@@ -4,3 +4,4 @@ pub mod Starred
 pub mod Neighbours
 pub mod Examples
 pub mod Stretches
+pub mod WayBack

@@ -1,0 +1,318 @@
+-- The way back of demand 2, document 01: the written form of a well-formed structure and of three fine texts, if it fits, is read as that structure with those
+-- texts. Put together from the records one after another. Assumes nothing.
+use Prim.Native.Nat.{ℕ, zero, suc, _+_, _≤_, _<_}
+use mathlib.Core.Path.{_≡_, refl, sym, ap, _∙_}
+use mathlib.Core.Bool.{Bool, true, false, not, _&&_}
+use mathlib.Core.List.{List, [], _∷_, _++_, map, append-assoc, append-nil}
+use native.Mathlib.Omega.{arith}
+use native.Mathlib.Nat.{add-zero}
+use lib.ListN.{length, length-append}
+use lib.Dec.{eqb, ltb, leb}
+use borrow.Author.Tests.{leb-true, le-ltb}
+use Rattle.lists.specs.Lists.{isNil, all, any, concat, flat}
+use Rattle.lists.specs.Order.{sort}
+use Rattle.lists.proofs.Bools.{and-parts}
+use Rattle.lists.proofs.ListLaws.{all-parts}
+use Rattle.format.specs.Bytes.{Bytes, bytes, within, cut}
+use Rattle.format.specs.Labels.{ListOf, Bonds, Charges, Radicals, Centres, Pairs, Holds, Text, BlockId, Formula, Atoms, Label, label, misplaced}
+use Rattle.format.specs.Rows.{Row}
+use Rattle.format.specs.Structure.{Atom, Entry, entriesOf, Structure, rowsOf, lists, rowBefore, atomOk, rowsOk, wellFormed}
+use Rattle.format.specs.Reading.{Rules, strict, State, Prose, prose, over, lacks, readLines, start, Outcome, Accepted, finished, Span, spanOf, Reading, Read, readingOf, readBlock}
+use Rattle.format.specs.Table.{textFine, textAt, textOk}
+use Rattle.format.specs.Writing.{formulaBefore, formulaOf, fragment, printFormula, valued, digits, printRecord, printId, printAtoms, printRows, records, canonical}
+use Rattle.format.proofs.ByteLaws.{within-true}
+use Rattle.format.proofs.RowLaws.{FineAtom, atom-fine}
+use Rattle.format.proofs.TotalLaws.{gathered-agree}
+use Rattle.format.proofs.Computing.{computing}
+use Rattle.demands.specs.WayBack.{ReadBack}
+use Rattle.demands.proofs.WayBackLines.{stateOf, Through, through-nil, through-to}
+use Rattle.demands.proofs.WayBackLabels.{titleLabel, versionLabel, originLabel, ownerLabel, idLabel, formulaLabel, atomsLabel, endLabel, free}
+use Rattle.demands.proofs.WayBackTexts.{spanned, span-is, Stands, span-at, span-ok}
+use Rattle.demands.proofs.WayBackRows.{sorted-back}
+use Rattle.demands.proofs.WayBackAtoms.{atoms-label, atoms-through}
+use Rattle.demands.proofs.WayBackFormula.{gathered, formula-through}
+use Rattle.demands.proofs.WayBackRecords.{blankWith, threeTexts, begin, start-is, title-through, version-through, origin-through, owner-through, id-through}
+use Rattle.demands.proofs.WayBackLists.{FineRows, rows-fine, Stage, AcceptedAs, end-stage, bareOf, turned, listLabels, lists-stage}
+
+-- WHAT A WELL-FORMED STRUCTURE KEEPS
+pub record Fine (k : ℕ) (s : Structure) : Type 0 where
+  pub low : 1 ≤ length (s .atoms)
+  pub high : length (s .atoms) ≤ 256
+  pub atoms : all (atomOk k) (s .atoms) ≡ true
+  pub rows : (l : ListOf) → FineRows l (length (s .atoms)) (rowsOf l s)
+  pub id : s .id ≤ 999999
+
+each-list : (p : ListOf → Bool) → all p lists ≡ true → (l : ListOf) → p l ≡ true
+unfolding lists
+each-list p h =
+    let a = all-parts p Bonds (Charges ∷ Radicals ∷ Centres ∷ Pairs ∷ []) h in
+    let b = all-parts p Charges (Radicals ∷ Centres ∷ Pairs ∷ []) (a .1) in
+    let c = all-parts p Radicals (Centres ∷ Pairs ∷ []) (b .1) in
+    let d = all-parts p Centres (Pairs ∷ []) (c .1) in
+    let e = all-parts p Pairs [] (d .1) in
+    pick (a .0) (b .0) (c .0) (d .0) (e .0)
+  where
+    pick : p Bonds ≡ true → p Charges ≡ true → p Radicals ≡ true → p Centres ≡ true → p Pairs ≡ true → (l : ListOf) → p l ≡ true
+    pick a b c d e Bonds = a
+    pick a b c d e Charges = b
+    pick a b c d e Radicals = c
+    pick a b c d e Centres = d
+    pick a b c d e Pairs = e
+
+pub fine-structure : (k : ℕ) (s : Structure) → wellFormed k s ≡ true → Fine k s
+unfolding wellFormed
+fine-structure k s h =
+    let n : ℕ = length (s .atoms) in
+    let p = and-parts (within 1 256 n) _ h in
+    let q = and-parts (all (atomOk k) (s .atoms)) _ (p .1) in
+    let r = and-parts (all (rowsOk n s) lists) (leb (s .id) 999999) (q .1) in
+    record {
+      low = within-true 1 256 n (p .0) .0;
+      high = within-true 1 256 n (p .0) .1;
+      atoms = q .0;
+      rows = λ l. rows-fine n s l (each-list (rowsOk n s) (r .0) l);
+      id = leb-true (s .id) 999999 (r .1);
+    }
+
+-- BLOCK_ID, left out where it is 0: what is seen and what runs behind it
+abbrev fourSeen : List Label
+fourSeen = ownerLabel ∷ originLabel ∷ versionLabel ∷ titleLabel ∷ []
+
+abbrev idSeen : ℕ → List Label
+idSeen zero = fourSeen
+idSeen (suc n) = idLabel ∷ fourSeen
+
+abbrev idRuns : ℕ → Holds
+idRuns zero = Text 2
+idRuns (suc n) = BlockId
+
+id-free : misplaced fourSeen idLabel ≡ false
+unfolding computing
+id-free = refl
+
+id-passed : (u : Rules) (at : ℕ) (texts : List Prose) (n : ℕ) → n ≤ 999999 →
+    Through u (stateOf at fourSeen (Text 2) texts [] (blankWith 0)) (printId n) (stateOf (at + length (printId n)) (idSeen n) (idRuns n) texts [] (blankWith n))
+unfolding printRecord
+id-passed u at texts zero h =
+    through-to u (stateOf at fourSeen (Text 2) texts [] (blankWith 0)) _ _ [] (ap (λ (k : ℕ). stateOf k fourSeen (Text 2) texts [] (blankWith 0)) (sym (add-zero at))) (through-nil u _)
+id-passed u at texts (suc n) h = id-through u at fourSeen (Text 2) [] (blankWith 0) refl refl texts n (omega arith) id-free
+
+-- the labels in order behind those before the atoms
+id-seen : (n : ℕ) → isNil (idSeen n) ≡ false
+id-seen zero = refl
+id-seen (suc n) = refl
+
+id-runs : (n : ℕ) → over (idRuns n) ≡ false
+id-runs zero = refl
+id-runs (suc n) = refl
+
+formula-free : (n : ℕ) → misplaced (idSeen n) formulaLabel ≡ false
+unfolding computing
+formula-free zero = refl
+formula-free (suc n) = refl
+
+atoms-free : (n : ℕ) → misplaced (formulaLabel ∷ idSeen n) atomsLabel ≡ false
+unfolding computing
+atoms-free zero = refl
+atoms-free (suc n) = refl
+
+lists-free : (n : ℕ) → all (free (atomsLabel ∷ formulaLabel ∷ idSeen n)) listLabels ≡ true
+unfolding computing
+lists-free zero = refl
+lists-free (suc n) = refl
+
+all-had : (n : ℕ) → any (lacks (atomsLabel ∷ formulaLabel ∷ idSeen n)) (2 ∷ 3 ∷ 4 ∷ 5 ∷ []) ≡ false
+unfolding computing
+all-had zero = refl
+all-had (suc n) = refl
+
+version-free : misplaced (titleLabel ∷ []) versionLabel ≡ false
+unfolding computing
+version-free = refl
+
+origin-free : misplaced (versionLabel ∷ titleLabel ∷ []) originLabel ≡ false
+unfolding computing
+origin-free = refl
+
+owner-free : misplaced (originLabel ∷ versionLabel ∷ titleLabel ∷ []) ownerLabel ≡ false
+unfolding computing
+owner-free = refl
+
+-- where there is an atom there is an element
+first-element : (k : ℕ) (atoms : List Atom) → 1 ≤ length atoms → all (atomOk k) atoms ≡ true → 1 ≤ k
+first-element k [] n h = absurd (omega arith)
+first-element k (a ∷ rest) n h = let F : FineAtom k a = atom-fine k a (all-parts (atomOk k) a rest h .0) in omega (arith, F .low, F .high)
+
+-- THE WHOLE FORM
+module _ (k : ℕ) (most : k ≤ 103) (s : Structure) (ok : Fine k s) (t0 t1 t2 : Bytes) (f0 : textFine t0 ≡ true) (f1 : textFine t1 ≡ true) (f2 : textFine t2 ≡ true) where
+  abbrev u : Rules
+  u = strict k
+
+  abbrev title : Bytes
+  title = bytes "##TITLE=" ++ valued t0
+
+  abbrev version : Bytes
+  version = bytes "##JCAMP-CS=" ++ valued (bytes "3.7")
+
+  abbrev origin : Bytes
+  origin = bytes "##ORIGIN=" ++ valued t1
+
+  abbrev owner : Bytes
+  owner = bytes "##OWNER=" ++ valued t2
+
+  abbrev formula : Bytes
+  formula = bytes "##MOLFORM=" ++ valued (printFormula (fragment (formulaOf (entriesOf (s .atoms)))))
+
+  abbrev label-line : Bytes
+  label-line = bytes "##ATOMLIST=" ++ valued []
+
+  -- what stands behind the texts, behind the atoms
+  abbrev ended : Bytes
+  ended = (bytes "##END=" ++ valued []) ++ []
+
+  abbrev lists-on : Bytes
+  lists-on = flat (λ l. printRows l (rowsOf l s)) lists ++ ended
+
+  abbrev texts-on : Bytes
+  texts-on = printId (s .id) ++ (formula ++ (label-line ++ (printAtoms 1 (s .atoms) ++ lists-on)))
+
+  abbrev form : Bytes
+  form = title ++ (version ++ (origin ++ (owner ++ texts-on)))
+
+  form-is : canonical s (t0 ∷ t1 ∷ t2 ∷ []) ≡ form
+  unfolding canonical records concat printRecord
+  form-is = refl
+
+  -- the places of the records, and the texts as they are read
+  abbrev origin-at : ℕ
+  origin-at = 0 + length title + length version
+
+  abbrev owner-at : ℕ
+  owner-at = origin-at + length origin
+
+  abbrev behind-texts : ℕ
+  behind-texts = owner-at + length owner
+
+  abbrev texts : List Prose
+  texts = threeTexts (prose (0 + length (bytes "##TITLE=")) (valued t0)) (prose (origin-at + length (bytes "##ORIGIN=")) (valued t1)) (prose (owner-at + length (bytes "##OWNER=")) (valued t2))
+
+  texts-read : readLines u begin (cut form) ≡ readLines u (stateOf behind-texts fourSeen (Text 2) texts [] (blankWith 0)) (cut texts-on)
+  texts-read =
+      let a : Prose = prose (0 + length (bytes "##TITLE=")) (valued t0) in
+      let b : Prose = prose (origin-at + length (bytes "##ORIGIN=")) (valued t1) in
+      title-through u t0 f0 (version ++ (origin ++ (owner ++ texts-on)))
+      ∙ version-through u (0 + length title) (titleLabel ∷ []) (Text 0) [] (blankWith 0) refl refl (threeTexts a (prose 0 []) (prose 0 [])) version-free (origin ++ (owner ++ texts-on))
+      ∙ origin-through u origin-at (versionLabel ∷ titleLabel ∷ []) _ [] (blankWith 0) refl refl a (prose 0 []) (prose 0 []) t1 f1 origin-free (owner ++ texts-on)
+      ∙ owner-through u owner-at (originLabel ∷ versionLabel ∷ titleLabel ∷ []) (Text 1) [] (blankWith 0) refl refl a b (prose 0 []) t2 f2 owner-free texts-on
+
+  abbrev formula-at : ℕ
+  formula-at = behind-texts + length (printId (s .id))
+
+  abbrev atoms-at : ℕ
+  atoms-at = formula-at + length formula + length label-line
+
+  abbrev seen-all : List Label
+  seen-all = atomsLabel ∷ formulaLabel ∷ idSeen (s .id)
+
+  atoms-read : readLines u begin (cut form) ≡ readLines u (stateOf (atoms-at + length (printAtoms 1 (s .atoms))) seen-all Atoms texts (gathered (s .atoms)) (bareOf (s .atoms) (s .id))) (cut lists-on)
+  atoms-read =
+      let n : ℕ = s .id in
+      texts-read
+      ∙ id-passed u behind-texts texts n (ok .id) (formula ++ (label-line ++ (printAtoms 1 (s .atoms) ++ lists-on)))
+      ∙ formula-through u formula-at (idSeen n) (idRuns n) texts [] (blankWith n) (s .atoms) most elements (ok .low) (ok .high) (ok .atoms) (id-seen n) (formula-free n) (id-runs n) (label-line ++ (printAtoms 1 (s .atoms) ++ lists-on))
+      ∙ atoms-label u (formula-at + length formula) (formulaLabel ∷ idSeen n) Formula texts (gathered (s .atoms)) (blankWith n) refl (atoms-free n) refl (printAtoms 1 (s .atoms) ++ lists-on)
+      ∙ atoms-through u most seen-all refl texts (gathered (s .atoms)) (blankWith n) (s .atoms) [] atoms-at 1 refl (omega (arith, ok .high)) (ok .atoms) lists-on
+    where
+      elements : 1 ≤ k
+      elements = first-element k (s .atoms) (ok .low) (ok .atoms)
+
+  accepted : AcceptedAs u begin form texts (gathered (s .atoms)) (turned s)
+  accepted =
+      let g : Stage u begin form texts (gathered (s .atoms)) (bareOf (s .atoms) (s .id)) listLabels lists-on =
+      record {
+        at = atoms-at + length (printAtoms 1 (s .atoms));
+        seen = seen-all;
+        running = Atoms;
+        begun = refl;
+        runs = refl;
+        clear = lists-free (s .id);
+        had = all-had (s .id);
+        reads = atoms-read;
+      } in
+      end-stage u begin form texts (gathered (s .atoms)) (turned s) (lists-stage u begin form texts (gathered (s .atoms)) s (omega (arith, ok .high)) (ok .rows) ended g) (ok .low) (gathered-agree formulaBefore (entriesOf (s .atoms)))
+
+  -- THE SPANS
+  abbrev spans : List Span
+  spans = spanned (0 + length (bytes "##TITLE=")) t0 ∷ spanned (origin-at + length (bytes "##ORIGIN=")) t1 ∷ spanned (owner-at + length (bytes "##OWNER=")) t2 ∷ []
+
+  spans-are : map spanOf texts ≡ spans
+  spans-are = rw (span-is (0 + length (bytes "##TITLE=")) t0 f0, span-is (origin-at + length (bytes "##ORIGIN=")) t1 f1, span-is (owner-at + length (bytes "##OWNER=")) t2 f2) refl
+
+  title-stands : Stands form (0 + length (bytes "##TITLE=")) t0
+  title-stands = record { before = bytes "##TITLE="; behind = version ++ (origin ++ (owner ++ texts-on)); is = append-assoc (bytes "##TITLE=") (valued t0) _; place = omega arith }
+
+  origin-stands : Stands form (origin-at + length (bytes "##ORIGIN=")) t1
+  origin-stands = record {
+    before = (title ++ version) ++ bytes "##ORIGIN=";
+    behind = owner ++ texts-on;
+    is =
+        sym (append-assoc title version (origin ++ (owner ++ texts-on))) ∙ ap (λ (r : Bytes). (title ++ version) ++ r) (append-assoc (bytes "##ORIGIN=") (valued t1) (owner ++ texts-on))
+        ∙ sym (append-assoc (title ++ version) (bytes "##ORIGIN=") _);
+    place = omega (arith, length-append (title ++ version) (bytes "##ORIGIN="), length-append title version);
+  }
+
+  owner-stands : Stands form (owner-at + length (bytes "##OWNER=")) t2
+  owner-stands = record {
+    before = ((title ++ version) ++ origin) ++ bytes "##OWNER=";
+    behind = texts-on;
+    is =
+        sym (append-assoc title version (origin ++ (owner ++ texts-on))) ∙ sym (append-assoc (title ++ version) origin (owner ++ texts-on))
+        ∙ ap (λ (r : Bytes). ((title ++ version) ++ origin) ++ r) (append-assoc (bytes "##OWNER=") (valued t2) texts-on) ∙ sym (append-assoc ((title ++ version) ++ origin) (bytes "##OWNER=") _);
+    place = omega (arith, length-append ((title ++ version) ++ origin) (bytes "##OWNER="), length-append (title ++ version) origin, length-append title version);
+  }
+
+  texts-back : map (textAt form) spans ≡ t0 ∷ t1 ∷ t2 ∷ []
+  texts-back = rw (span-at title-stands, span-at origin-stands, span-at owner-stands) refl
+
+  texts-sound : all (textOk form) spans ≡ true
+  unfolding all
+  texts-sound = rw (span-ok title-stands f0, span-ok origin-stands f1, span-ok owner-stands f2) refl
+
+  -- THE STRUCTURE: each list sorted back
+  structure-back : finished (turned s) ≡ s
+  unfolding finished rowsOf
+  structure-back =
+      rw (
+        sorted-back (s .bonds) (ok .rows Bonds .ascending),
+        sorted-back (s .charges) (ok .rows Charges .ascending),
+        sorted-back (s .radicals) (ok .rows Radicals .ascending),
+        sorted-back (s .centres) (ok .rows Centres .ascending),
+        sorted-back (s .pairs) (ok .rows Pairs .ascending),
+      ) refl
+
+  form-read : length form ≤ 32768 → readBlock u form ≡ Read s spans
+  unfolding readBlock
+  form-read fits =
+      let x : AcceptedAs u begin form texts (gathered (s .atoms)) (turned s) = accepted in
+      let e : readLines u start (cut form) ≡ Accepted (x .last) = ap (λ (st : State). readLines u st (cut form)) start-is ∙ x .reads in
+      rw (le-ltb 32768 (length form) fits, readBlock) (ap readingOf e ∙ ap (λ (b : Structure). Read (finished b) (map spanOf (x .last .texts))) (x .body-is) ∙ ap (λ (l : List Prose). Read (finished (turned s)) (map spanOf l)) (x .texts-are)
+      ∙ ap (λ (b : Structure). Read b (map spanOf texts)) structure-back ∙ ap (Read s) spans-are)
+
+  pub form-back : length (canonical s (t0 ∷ t1 ∷ t2 ∷ [])) ≤ 32768 → ReadBack k s (t0 ∷ t1 ∷ t2 ∷ [])
+  form-back fits = record {
+    title = spanned (0 + length (bytes "##TITLE=")) t0;
+    origin = spanned (origin-at + length (bytes "##ORIGIN=")) t1;
+    owner = spanned (owner-at + length (bytes "##OWNER=")) t2;
+    reads = ap (readBlock u) form-is ∙ form-read (omega (arith, ap length form-is));
+    same-texts = ap (λ (b : Bytes). map (textAt b) spans) form-is ∙ texts-back;
+    sound-texts = ap (λ (b : Bytes). all (textOk b) spans) form-is ∙ texts-sound;
+  }
+
+-- THE WAY BACK
+pub way-back : (k : ℕ) (s : Structure) (t0 t1 t2 : Bytes) → k ≤ 103 → wellFormed k s ≡ true → all textFine (t0 ∷ t1 ∷ t2 ∷ []) ≡ true → length (canonical s (t0 ∷ t1 ∷ t2 ∷ [])) ≤ 32768 →
+    ReadBack k s (t0 ∷ t1 ∷ t2 ∷ [])
+way-back k s t0 t1 t2 most ok fine fits =
+    let a = all-parts textFine t0 (t1 ∷ t2 ∷ []) fine in
+    let b = all-parts textFine t1 (t2 ∷ []) (a .1) in
+    let c = all-parts textFine t2 [] (b .1) in
+    form-back k most s (fine-structure k s ok) t0 t1 t2 (a .0) (b .0) (c .0) fits

@@ -1,0 +1,43 @@
+-- What the way back of demand 2 speaks of, document 01: a written form read again gives the structure that it was written from, and texts of the same content.
+-- Assumes nothing.
+use Prim.Native.Nat.{ℕ}
+use mathlib.Core.Path.{_≡_}
+use mathlib.Core.Bool.{true}
+use mathlib.Core.List.{List, [], _∷_, _++_, map}
+use lib.ListN.{length, take, drop}
+use lib.IntN.{ℤ}
+use Rattle.lists.specs.Lists.{all}
+use Rattle.format.specs.Bytes.{Bytes}
+use Rattle.format.specs.Structure.{Structure}
+use Rattle.format.specs.Reading.{Span, Read, strict, readBlock}
+use Rattle.format.specs.Table.{encode, decode, spansOf, textAt, textOk, readAnswer, readResult}
+use Rattle.format.specs.Writing.{canonical, WriteResult, formOf, writeResult}
+
+-- the form of a structure and its texts is read as that structure, and where its three texts stand stand those texts, each as a sound table has it
+pub record ReadBack (k : ℕ) (s : Structure) (texts : List Bytes) : Type 0 where
+  pub title : Span
+  pub origin : Span
+  pub owner : Span
+  pub reads : readBlock (strict k) (canonical s texts) ≡ Read s (title ∷ origin ∷ owner ∷ [])
+  pub same-texts : map (textAt (canonical s texts)) (title ∷ origin ∷ owner ∷ []) ≡ texts
+  pub sound-texts : all (textOk (canonical s texts)) (title ∷ origin ∷ owner ∷ []) ≡ true
+
+-- a table's numbers but for those that say where the texts stand, 7 to 12
+abbrev pub withoutTexts : List ℤ → List ℤ
+withoutTexts t = take 7 t ++ drop 13 t
+
+-- what a writing has written
+abbrev pub writtenForm : WriteResult → Bytes
+writtenForm r = take (r .count) (r .buffer)
+
+-- a table is written; the bytes written are its form, and read into any table they are accepted, and give the same numbers but for the places of the texts, where
+-- texts of the same content stand
+pub record TableBack (k : ℕ) (t : List ℤ) (b buffer : Bytes) (into : List ℤ) : Type 0 where
+  pub title : Span
+  pub origin : Span
+  pub owner : Span
+  pub written : writeResult k t b buffer .number ≡ 0
+  pub form : writtenForm (writeResult k t b buffer) ≡ formOf t b
+  pub reads : readResult k (formOf t b) into ≡ readAnswer 0 0 (encode (decode t) (title ∷ origin ∷ owner ∷ []) ++ drop 3856 into)
+  pub same-numbers : withoutTexts (encode (decode t) (title ∷ origin ∷ owner ∷ [])) ≡ withoutTexts (take 3856 t)
+  pub same-texts : map (textAt (formOf t b)) (title ∷ origin ∷ owner ∷ []) ≡ map (textAt b) (spansOf t)
