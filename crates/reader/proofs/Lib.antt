@@ -21,3 +21,9 @@ pub mod SpreadLaws
 pub mod SpreadRowLaws
 pub mod HeaderLaws
 pub mod KeyedLaws
+pub mod PlaceLaws
+pub mod AppearLaws
+pub mod NumberingLaws
+pub mod RenumberLaws
+pub mod OrderingLaws
+pub mod SortedValueLaws

@@ -9,3 +9,4 @@ pub mod Values
 pub mod Left
 pub mod Published
 pub mod Members
+pub mod Numbering
