@@ -29,3 +29,9 @@ pub mod AtomPartLaws
 pub mod KeyedLines
 pub mod LineTurnLaws
 pub mod StepTurnLaws
+pub mod PlaceLaws
+pub mod AppearLaws
+pub mod NumberingLaws
+pub mod RenumberLaws
+pub mod OrderingLaws
+pub mod SortedValueLaws
