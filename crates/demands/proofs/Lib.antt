@@ -11,4 +11,5 @@ pub mod WayBackFormula
 pub mod WayBackRecords
 pub mod WayBackLists
 pub mod WayBack
+pub mod WayBackTables
 pub mod Demands
