@@ -12,4 +12,5 @@ pub mod WayBackRecords
 pub mod WayBackLists
 pub mod WayBack
 pub mod WayBackTables
+pub mod WayBackForm
 pub mod Demands

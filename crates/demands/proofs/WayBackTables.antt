@@ -1,14 +1,12 @@
 -- The way back over tables: demand 2 of document 01, a sound table whose form fits is written, and the form read again gives the same table but for the places of
 -- the texts. Assumes nothing.
-use Prim.Native.Nat.{ℕ, _+_, _≤_}
+use Prim.Native.Nat.{ℕ, _≤_}
 use mathlib.Core.Path.{_≡_, refl, sym, ap, _∙_}
-use mathlib.Core.Bool.{Bool, true, false, _&&_}
+use mathlib.Core.Bool.{true, false}
 use mathlib.Core.List.{List, [], _∷_, _++_, map}
-use native.Mathlib.Omega.{arith}
 use lib.ListN.{length, take, drop}
 use lib.Seq.{take-append-seam}
 use lib.IntN.{ℤ, pos, negsuc}
-use lib.Dec.{eqb, ltb}
 use borrow.Author.Tests.{eqb-true, le-ltb}
 use Rattle.lists.specs.Lists.{all, sameBy, flat, rowsFrom}
 use Rattle.lists.proofs.Bools.{torn, and-parts}
@@ -17,9 +15,9 @@ use Rattle.lists.proofs.PartLaws.{all-map}
 use Rattle.lists.proofs.PairLaws.{sameBy-eq}
 use Rattle.format.specs.Bytes.{Bytes}
 use Rattle.format.specs.Structure.{Structure, wellFormed}
-use Rattle.format.specs.Reading.{Span, Read, strict, readBlock}
-use Rattle.format.specs.Table.{counts, encode, decode, spanAt, spansOf, sameNumber, soundNumbers, textFine, textAt, spanOk, textOk, sound, readAnswer, tableOf, readResult}
-use Rattle.format.specs.Writing.{canonical, formOf, WriteResult, writeResult}
+use Rattle.format.specs.Reading.{Span}
+use Rattle.format.specs.Table.{counts, encode, decode, spanAt, spansOf, sameNumber, soundNumbers, textFine, textAt, spanOk, textOk, sound, tableOf}
+use Rattle.format.specs.Writing.{formOf, WriteResult, writeResult}
 use Rattle.demands.specs.WayBack.{ReadBack, TableBack, withoutTexts, writtenForm}
 use Rattle.demands.proofs.Refused.{long-read}
 use Rattle.demands.proofs.WayBack.{way-back}

@@ -4,7 +4,7 @@ use Prim.Native.Nat.{ℕ}
 use mathlib.Core.Path.{_≡_}
 use mathlib.Core.Bool.{true}
 use mathlib.Core.List.{List, [], _∷_, _++_, map}
-use lib.ListN.{length, take, drop}
+use lib.ListN.{take, drop}
 use lib.IntN.{ℤ}
 use Rattle.lists.specs.Lists.{all}
 use Rattle.format.specs.Bytes.{Bytes}
