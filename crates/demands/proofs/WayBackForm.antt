@@ -1,20 +1,30 @@
 -- A form as a block of a transfer file: in any block that is accepted no known label stands twice, so only a form's first line is a TITLE line and only its last
 -- an END line. Serves document 01, demands 2 and 3. Assumes nothing.
-use Prim.Native.Nat.{ℕ, suc, _+_, _≤_, _<_}
+use Prim.Native.Nat.{ℕ, zero, suc, _<_}
+use Prim.Native.String.{String}
 use mathlib.Core.Path.{_≡_, refl, sym, ap, _∙_}
-use mathlib.Core.Bool.{Bool, true, false, not, _&&_, _||_}
+use mathlib.Core.Bool.{Bool, true, false, not, _&&_}
 use mathlib.Core.List.{List, [], _∷_, _++_}
 use native.Mathlib.Omega.{arith}
-use lib.ListN.{length}
+use lib.ListN.{length, getD, take, drop}
 use lib.Dec.{eqb, ltb}
-use borrow.Author.Tests.{eqb-true, eq-eqb, not-false}
-use Rattle.lists.specs.Lists.{isNil, all, any}
-use Rattle.lists.proofs.Bools.{torn, or-left, or-neither, not-of-true, eqb-symm}
-use Rattle.lists.proofs.ListLaws.{any-nil, any-neither, any-parts, any-hit, any-or, any-append-parts}
-use Rattle.format.specs.Bytes.{Bytes, allowed}
-use Rattle.format.specs.Labels.{Label, misplaced, Line, Plain, Unparted, Labelled, lineOf, hasCode, titleLine, endLine}
-use Rattle.format.specs.Reading.{Rules, State, Turn, Go, Stop, if_stop_else_, past, over, noted, opened, lacks, lineTurn, lineStep}
-use Rattle.format.proofs.ReadingLaws.{stop-go, Same, Went, further, started, step-went, Goes}
+use borrow.Author.Tests.{eqb-true, not-false}
+use Rattle.lists.specs.Lists.{isNil, all, any, concat, flat}
+use Rattle.lists.proofs.Bools.{torn, or-left, eqb-symm}
+use Rattle.lists.proofs.ListLaws.{all-parts, any-nil, any-neither, any-parts, any-hit, any-or, any-append-parts}
+use Rattle.lists.proofs.PartLaws.{concat-nil, concat-cons, concat-snoc, flat-nil, flat-cons}
+use Rattle.format.specs.Bytes.{Bytes, bytes, allowed, cut, lineLen, wholeFrom, whole}
+use Rattle.format.specs.Labels.{ListOf, Label, misplaced, Line, Plain, Unparted, Labelled, lineOf, hasCode, titleLine, endLine}
+use Rattle.format.specs.Rows.{Row}
+use Rattle.format.specs.Structure.{Atom, Structure, rowsOf, lists, entriesOf}
+use Rattle.format.specs.Writing.{digits, line, atomWords, printAtoms, rowWords, formulaOf, fragment, printFormula, valued, printRecord, printId, listLabel, printRows, records, canonical}
+use Rattle.format.specs.Reading.{Rules, State, Go, if_stop_else_, past, noted, lacks, lineTurn, lineStep, Outcome, Accepted, Refused, readLines, start, Span, Read, Unread, readingOf, readBlock}
+use Rattle.format.proofs.Computing.{computing}
+use Rattle.format.proofs.CutLaws.{cut-first, cut-append}
+use Rattle.format.proofs.RowLines.{body, line-is}
+use Rattle.format.proofs.TextLaws.{whole-snoc, valued-whole}
+use Rattle.format.proofs.ReadingLaws.{stop-go, Went, further, started, step-went, Goes, accepted-by}
+use Rattle.demands.specs.WayBack.{OneBlock}
 use Rattle.demands.proofs.WayBackLabels.{noted-known, lacks-more}
 
 -- A KNOWN LABEL ONCE
@@ -97,3 +107,133 @@ module _ (u : Rules) (c : ℕ) where
           let k : any coded (ls ++ (e ∷ [])) ≡ false = none-again (ls ++ (e ∷ [])) (past l (g .0)) last (g .2) (now-seen u st l (g .0) (g .1) c n q) in
           torn (coded e) h (any-parts coded e [] (any-append-parts coded ls (e ∷ []) k .1) .0)
       by false q ih = any-neither coded l ls q ih
+
+-- WHAT IS ACCEPTED: all its lines go, and the first is a TITLE line
+pub block-goes : (u : Rules) (b : Bytes) (s : Structure) (spans : List Span) → readBlock u b ≡ Read s spans → (last : State) × Goes u start (cut b) last
+unfolding readBlock
+block-goes u b s spans h = by (ltb 32768 (length b)) (readLines u start (cut b)) refl h
+  where
+    by : (long : Bool) (o : Outcome) → readLines u start (cut b) ≡ o → elim long [ true ↦ Unread 2 0 | false ↦ readingOf o ] ≡ Read s spans → (last : State) × Goes u start (cut b) last
+    by true o e h = let z : _≡_ {A = ℕ} 0 1 = cc in absurd (omega arith)
+    by false (Accepted last) e h = (last, accepted-by u (cut b) start last e .goes)
+    by false (Refused n p) e h = let z : _≡_ {A = ℕ} 0 1 = cc in absurd (omega arith)
+
+first-title : (u : Rules) (l : Bytes) (next : State) → lineStep u start l ≡ Go next → titleLine l ≡ true
+unfolding lineStep start
+first-title u l next h = by (not (all allowed l)) (titleLine l) refl h
+  where
+    by : (m t : Bool) → titleLine l ≡ t → (if m stop 3 else if not t stop 4 else lineTurn u start l (lineOf l)) ≡ Go next → titleLine l ≡ true
+    by true t e k = stop-go 3 next k
+    by false true e k = e
+    by false false e k = stop-go 4 next k
+
+end-is : endLine (bytes "##END=\n") ≡ true
+unfolding computing
+end-is = refl
+
+-- WHOLE: each record of a form ends in a line feed
+whole-append : (e : Bool) (a b : Bytes) → wholeFrom e a ≡ true → whole b ≡ true → wholeFrom e (a ++ b) ≡ true
+unfolding wholeFrom
+whole-append e [] b h k = ap (λ (t : Bool). wholeFrom t b) h ∙ k
+whole-append e (x ∷ a) b h k = whole-append (eqb x 10) a b h k
+
+whole-nil : whole [] ≡ true
+unfolding wholeFrom
+whole-nil = refl
+
+whole-flat : {A : Type 0} (f : A → Bytes) → ((x : A) → whole (f x) ≡ true) → (xs : List A) → whole (flat f xs) ≡ true
+whole-flat f h [] = ap whole (flat-nil f) ∙ whole-nil
+whole-flat f h (x ∷ xs) = ap whole (flat-cons f x xs) ∙ whole-append true (f x) (flat f xs) (h x) (whole-flat f h xs)
+
+whole-concat : (ls : List Bytes) → all whole ls ≡ true → whole (concat ls) ≡ true
+whole-concat [] h = ap whole concat-nil ∙ whole-nil
+whole-concat (l ∷ ls) h = let p : (whole l ≡ true) × (all whole ls ≡ true) = all-parts whole l ls h in ap whole (concat-cons l ls) ∙ whole-append true l (concat ls) (p .0) (whole-concat ls (p .1))
+
+line-whole : (ws : List Bytes) → whole (line ws) ≡ true
+line-whole ws = ap whole (line-is ws) ∙ whole-snoc (body ws) true
+
+record-whole : (l : String) (v : Bytes) → whole (printRecord l v) ≡ true
+unfolding printRecord
+record-whole l v = valued-whole (bytes l) v true
+
+id-whole : (n : ℕ) → whole (printId n) ≡ true
+id-whole zero = whole-nil
+id-whole (suc n) = record-whole "##BLOCK_ID=" (digits (suc n))
+
+atoms-whole : (n : ℕ) (atoms : List Atom) → whole (printAtoms n atoms) ≡ true
+unfolding printAtoms
+atoms-whole n [] = whole-nil
+atoms-whole n (a ∷ rest) = whole-append true (line (atomWords n a)) (printAtoms (suc n) rest) (line-whole (atomWords n a)) (atoms-whole (suc n) rest)
+
+rows-whole : (l : ListOf) (rs : List Row) → whole (printRows l rs) ≡ true
+unfolding printRows
+rows-whole l [] = whole-nil
+rows-whole l (r ∷ rs) = whole-append true (printRecord (listLabel l) []) _ (record-whole (listLabel l) []) (whole-flat (λ (x : Row). line (rowWords l x)) (λ x. line-whole (rowWords l x)) (r ∷ rs))
+
+-- THE LINES OF A FORM
+module _ (s : Structure) (texts : List Bytes) where
+  -- all records but END
+  abbrev front : List Bytes
+  front =
+      printRecord "##TITLE=" (getD texts 0 [])
+      ∷ printRecord "##JCAMP-CS=" (bytes "3.7")
+      ∷ printRecord "##ORIGIN=" (getD texts 1 [])
+      ∷ printRecord "##OWNER=" (getD texts 2 [])
+      ∷ printId (s .id)
+      ∷ printRecord "##MOLFORM=" (printFormula (fragment (formulaOf (entriesOf (s .atoms)))))
+      ∷ printRecord "##ATOMLIST=" []
+      ∷ printAtoms 1 (s .atoms)
+      ∷ flat (λ l. printRows l (rowsOf l s)) lists
+      ∷ []
+
+  front-whole : all whole front ≡ true
+  unfolding all
+  front-whole =
+      rw (
+        record-whole "##TITLE=" (getD texts 0 []),
+        record-whole "##JCAMP-CS=" (bytes "3.7"),
+        record-whole "##ORIGIN=" (getD texts 1 []),
+        record-whole "##OWNER=" (getD texts 2 []),
+        id-whole (s .id),
+        record-whole "##MOLFORM=" (printFormula (fragment (formulaOf (entriesOf (s .atoms))))),
+        record-whole "##ATOMLIST=" [],
+        atoms-whole 1 (s .atoms),
+        whole-flat (λ (l : ListOf). printRows l (rowsOf l s)) (λ l. rows-whole l (rowsOf l s)) lists,
+      ) refl
+
+  form-parts : canonical s texts ≡ concat front ++ bytes "##END=\n"
+  unfolding canonical records printRecord valued bytes
+  form-parts = concat-snoc front (printRecord "##END=" [])
+
+  end-cut : cut (bytes "##END=\n") ≡ bytes "##END=\n" ∷ []
+  unfolding computing
+  end-cut = refl
+
+  form-cut : cut (canonical s texts) ≡ cut (concat front) ++ (bytes "##END=\n" ∷ [])
+  form-cut = ap cut form-parts ∙ cut-append (concat front) (bytes "##END=\n") (whole-concat front front-whole) ∙ ap (λ (r : List Bytes). cut (concat front) ++ r) end-cut
+
+  front-some : 0 < length (concat front)
+  unfolding concat printRecord bytes
+  front-some = omega arith
+
+  pub form-lines : (u : Rules) (x : Structure) (spans : List Span) → readBlock u (canonical s texts) ≡ Read x spans → OneBlock (canonical s texts)
+  unfolding titleLine endLine
+  form-lines u x spans h =
+      let c = cut-first (concat front) front-some in
+      let l : Bytes = take (lineLen (concat front)) (concat front) in
+      let ls : List Bytes = cut (drop (lineLen (concat front)) (concat front)) in
+      let e : Bytes = bytes "##END=\n" in
+      let lines : cut (canonical s texts) ≡ l ∷ (ls ++ (e ∷ [])) = form-cut ∙ ap (λ (r : List Bytes). r ++ (e ∷ [])) c in
+      let g = block-goes u (canonical s texts) x spans h in
+      let goes : Goes u start (l ∷ (ls ++ (e ∷ []))) (g .0) = rw lines at (g .1) in
+      let title : titleLine l ≡ true = first-title u l (goes .0) (goes .1) in
+      record {
+        first = l;
+        middle = ls;
+        last = e;
+        lines = lines;
+        title-first = title;
+        title-once = none-again u 1 (ls ++ (e ∷ [])) (past l (goes .0)) (g .0) (goes .2) (now-seen u start l (goes .0) (goes .1) 1 refl title);
+        end-last = end-is;
+        end-once = none-before u 13 refl (l ∷ ls) e start (g .0) goes end-is;
+      }
