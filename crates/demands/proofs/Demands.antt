@@ -5,12 +5,12 @@ use mathlib.Core.Bool.{true}
 use mathlib.Core.List.{List, [], _∷_, _++_, map}
 use lib.ListN.{length, drop, replicate}
 use lib.IntN.{ℤ}
-use Rattle.lists.specs.Lists.{any}
+use Rattle.lists.specs.Lists.{all, any}
 use Rattle.format.specs.Bytes.{Bytes, bytes, cut, whole}
 use Rattle.format.specs.Labels.{endLine}
-use Rattle.format.specs.Structure.{Isotope, Entry, total, agree}
-use Rattle.format.specs.Table.{zeros, readAnswer, readResult}
-use Rattle.format.specs.Writing.{unwritten, writeResult}
+use Rattle.format.specs.Structure.{Isotope, Entry, total, agree, Structure, wellFormed}
+use Rattle.format.specs.Table.{zeros, textFine, sound, readAnswer, readResult}
+use Rattle.format.specs.Writing.{canonical, formOf, unwritten, writeResult}
 use Rattle.format.specs.Walking.{pieces, answers}
 use Rattle.format.proofs.TotalLaws as totals
 use Rattle.demands.specs.Cases.{judged}
@@ -18,9 +18,12 @@ use Rattle.demands.specs.Starred.{starred}
 use Rattle.demands.specs.Neighbours.{neighbours}
 use Rattle.demands.specs.Examples.{formicInput, formicWritten, formicTable, neon, wrongNeon}
 use Rattle.demands.specs.Stretches.{closing, opening, moved, _then_, Chain, steps}
+use Rattle.demands.specs.WayBack.{ReadBack, TableBack}
 use Rattle.demands.proofs.Worked as worked
 use Rattle.demands.proofs.Refused as refused
 use Rattle.demands.proofs.Stretches as stretches
+use Rattle.demands.proofs.WayBack as back
+use Rattle.demands.proofs.WayBackTables as tables
 
 -- DEMAND 1
 -- "A refused reading zeroes the structure table, save where that table is too short and is untouched."
@@ -55,6 +58,17 @@ formic-read = worked.formic-read
 
 pub formic-written : writeResult 103 formicTable (bytes formicInput) (replicate 158 7) ≡ record { number = 0; count = 156; buffer = bytes formicWritten ++ (7 ∷ 7 ∷ []) }
 formic-written = worked.formic-written
+
+-- the way back: the written form of a well-formed structure and of three fine texts, if it fits, is read as that structure, with texts of the same content
+pub way-back : (k : ℕ) (s : Structure) (title origin owner : Bytes) → k ≤ 103 → wellFormed k s ≡ true → all textFine (title ∷ origin ∷ owner ∷ []) ≡ true →
+    length (canonical s (title ∷ origin ∷ owner ∷ [])) ≤ 32768 → ReadBack k s (title ∷ origin ∷ owner ∷ [])
+way-back = back.way-back
+
+-- and over tables: a sound table whose form fits the limit and the buffer is written, and its form, read into any table, gives the same numbers but for the places
+-- of the texts, where texts of the same content stand
+pub table-back : (k : ℕ) (t : List ℤ) (b buffer : Bytes) (into : List ℤ) → k ≤ 103 → 3856 ≤ length t → sound k t b ≡ true → length (formOf t b) ≤ 32768 → length (formOf t b) ≤ length buffer →
+    3856 ≤ length into → TableBack k t b buffer into
+table-back = tables.table-back
 
 -- DEMAND 3
 -- "Take a file of three stretches, within the file limit: the first empty or ending with a block closed by its END line and line feed; the second anything,

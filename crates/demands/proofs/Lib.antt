@@ -11,4 +11,6 @@ pub mod WayBackFormula
 pub mod WayBackRecords
 pub mod WayBackLists
 pub mod WayBack
+pub mod WayBackTables
+pub mod WayBackForm
 pub mod Demands

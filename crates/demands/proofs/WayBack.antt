@@ -1,32 +1,30 @@
 -- The way back of demand 2, document 01: the written form of a well-formed structure and of three fine texts, if it fits, is read as that structure with those
 -- texts. Put together from the records one after another. Assumes nothing.
-use Prim.Native.Nat.{ℕ, zero, suc, _+_, _≤_, _<_}
+use Prim.Native.Nat.{ℕ, zero, suc, _+_, _≤_}
 use mathlib.Core.Path.{_≡_, refl, sym, ap, _∙_}
-use mathlib.Core.Bool.{Bool, true, false, not, _&&_}
-use mathlib.Core.List.{List, [], _∷_, _++_, map, append-assoc, append-nil}
+use mathlib.Core.Bool.{Bool, true, false}
+use mathlib.Core.List.{List, [], _∷_, _++_, map, append-assoc}
 use native.Mathlib.Omega.{arith}
 use native.Mathlib.Nat.{add-zero}
 use lib.ListN.{length, length-append}
-use lib.Dec.{eqb, ltb, leb}
+use lib.Dec.{leb}
 use borrow.Author.Tests.{leb-true, le-ltb}
 use Rattle.lists.specs.Lists.{isNil, all, any, concat, flat}
-use Rattle.lists.specs.Order.{sort}
 use Rattle.lists.proofs.Bools.{and-parts}
 use Rattle.lists.proofs.ListLaws.{all-parts}
 use Rattle.format.specs.Bytes.{Bytes, bytes, within, cut}
-use Rattle.format.specs.Labels.{ListOf, Bonds, Charges, Radicals, Centres, Pairs, Holds, Text, BlockId, Formula, Atoms, Label, label, misplaced}
-use Rattle.format.specs.Rows.{Row}
-use Rattle.format.specs.Structure.{Atom, Entry, entriesOf, Structure, rowsOf, lists, rowBefore, atomOk, rowsOk, wellFormed}
-use Rattle.format.specs.Reading.{Rules, strict, State, Prose, prose, over, lacks, readLines, start, Outcome, Accepted, finished, Span, spanOf, Reading, Read, readingOf, readBlock}
+use Rattle.format.specs.Labels.{ListOf, Bonds, Charges, Radicals, Centres, Pairs, Holds, Text, BlockId, Formula, Atoms, Label, misplaced}
+use Rattle.format.specs.Structure.{Atom, entriesOf, Structure, rowsOf, lists, atomOk, rowsOk, wellFormed}
+use Rattle.format.specs.Reading.{Rules, strict, State, Prose, prose, over, lacks, readLines, start, Accepted, finished, Span, spanOf, Read, readingOf, readBlock}
 use Rattle.format.specs.Table.{textFine, textAt, textOk}
-use Rattle.format.specs.Writing.{formulaBefore, formulaOf, fragment, printFormula, valued, digits, printRecord, printId, printAtoms, printRows, records, canonical}
+use Rattle.format.specs.Writing.{formulaBefore, formulaOf, fragment, printFormula, valued, printRecord, printId, printAtoms, printRows, records, canonical}
 use Rattle.format.proofs.ByteLaws.{within-true}
 use Rattle.format.proofs.RowLaws.{FineAtom, atom-fine}
 use Rattle.format.proofs.TotalLaws.{gathered-agree}
 use Rattle.format.proofs.Computing.{computing}
 use Rattle.demands.specs.WayBack.{ReadBack}
 use Rattle.demands.proofs.WayBackLines.{stateOf, Through, through-nil, through-to}
-use Rattle.demands.proofs.WayBackLabels.{titleLabel, versionLabel, originLabel, ownerLabel, idLabel, formulaLabel, atomsLabel, endLabel, free}
+use Rattle.demands.proofs.WayBackLabels.{titleLabel, versionLabel, originLabel, ownerLabel, idLabel, formulaLabel, atomsLabel, free}
 use Rattle.demands.proofs.WayBackTexts.{spanned, span-is, Stands, span-at, span-ok}
 use Rattle.demands.proofs.WayBackRows.{sorted-back}
 use Rattle.demands.proofs.WayBackAtoms.{atoms-label, atoms-through}

@@ -1,5 +1,5 @@
 -- The way back, the atoms: the printed rows of the atoms are read as the atoms, in their order. Serves document 01, demand 2. Assumes nothing.
-use Prim.Native.Nat.{ℕ, zero, suc, _+_, _≤_, _<_}
+use Prim.Native.Nat.{ℕ, suc, _+_, _≤_, _<_}
 use mathlib.Core.Path.{_≡_, refl, sym, ap, _∙_}
 use mathlib.Core.Bool.{Bool, true, false, not, _&&_}
 use mathlib.Core.Option.{some}
@@ -15,14 +15,14 @@ use Rattle.lists.proofs.ListLaws.{all-parts}
 use Rattle.format.specs.Bytes.{Bytes, bytes}
 use Rattle.format.specs.Labels.{Holds, Atoms, Label, label, misplaced}
 use Rattle.format.specs.Rows.{AtomRow, atomShape}
-use Rattle.format.specs.Structure.{Isotope, isotope, unknown, massOk, Atom, Entry, Structure, atomOk}
-use Rattle.format.specs.Reading.{Rules, State, Turn, Go, Stop, if_stop_else_, Prose, withAtoms, over, atomTurn, unlessBlank, atomLine, valueTurn, furtherTurn, lineStep, readLines}
+use Rattle.format.specs.Structure.{Isotope, unknown, massOk, Atom, Entry, Structure, atomOk}
+use Rattle.format.specs.Reading.{Rules, State, Turn, Go, if_stop_else_, Prose, withAtoms, over, atomTurn, unlessBlank, atomLine, valueTurn, furtherTurn, lineStep}
 use Rattle.format.specs.Writing.{spelt, line, atomWords, printAtoms, valued}
 use Rattle.format.proofs.SymbolLaws.{isotope-back, known-back, spelt-mass}
 use Rattle.format.proofs.RowLines.{RowLine}
 use Rattle.format.proofs.RowLaws.{FineAtom, atom-fine, atom-back, printed-atom}
 use Rattle.demands.proofs.WayBackLines.{stateOf, Through, through-nil, through-both, through-to, through-line, plain-step}
-use Rattle.demands.proofs.WayBackLabels.{Written, atomsLabel, atoms-written, label-value}
+use Rattle.demands.proofs.WayBackLabels.{atomsLabel, atoms-written, label-value}
 use Rattle.demands.proofs.WayBackRows.{unless-some, no-value, bare-full, bare-fine}
 
 four : (a b c d : Bool) (w x y z : ℕ) (t : Turn) → a ≡ false → b ≡ false → c ≡ false → d ≡ false → (if a stop w else if b stop x else if c stop y else if d stop z else t) ≡ t

@@ -2,24 +2,24 @@
 -- demand 2; a total is at most 4,096, so within "an optional count 1 to 9,999". Assumes nothing.
 use Prim.Native.Nat.{ℕ, zero, suc, _+_, _*_, _≤_, _<_}
 use mathlib.Core.Path.{_≡_, refl, sym, ap, _∙_}
-use mathlib.Core.Bool.{Bool, true, false, not, _&&_, _||_}
+use mathlib.Core.Bool.{Bool, true, false, not, _&&_}
 use mathlib.Core.Option.{some}
 use mathlib.Core.List.{List, [], _∷_, _++_, map}
 use native.Mathlib.Omega.{arith}
-use lib.ListN.{length, length-append}
-use lib.Dec.{eqb, leb, ltb}
+use lib.ListN.{length}
+use lib.Dec.{leb}
 use borrow.Author.Tests.{le-leb, leb-true, not-true}
 use Rattle.lists.specs.Lists.{isNil, all, any}
 use Rattle.lists.specs.Order.{sort}
 use Rattle.lists.proofs.Bools.{torn, and-parts, and-both}
-use Rattle.lists.proofs.ListLaws.{all-nil, all-parts, all-both, any-nil, any-neither, any-hit, any-miss, any-later, any-all, all-imply}
+use Rattle.lists.proofs.ListLaws.{all-nil, all-parts, all-both, any-nil, any-hit, any-miss, any-later, any-all, all-imply}
 use Rattle.lists.proofs.PartLaws.{all-map, any-map}
 use Rattle.lists.proofs.SortLaws.{sort-all, sort-length}
 use Rattle.format.specs.Bytes.{Bytes, bytes, within, strip}
 use Rattle.format.specs.Labels.{Holds, Formula, Label, label, misplaced}
 use Rattle.format.specs.Formula.{Counted, counted, formulaShape}
 use Rattle.format.specs.Structure.{Isotope, isotopeOf, isotope, unknown, massOk, Atom, Entry, entry, entriesOf, sameIsotope, total, kinds, Structure, atomOk}
-use Rattle.format.specs.Reading.{Rules, State, Turn, Go, Stop, if_stop_else_, Prose, over, withFormula, formulaTurn, valueTurn, lineStep}
+use Rattle.format.specs.Reading.{Rules, State, Go, Prose, over, withFormula, formulaTurn, valueTurn}
 use Rattle.format.specs.Writing.{spelt, formulaBefore, formulaOf, fragment, printFormula, valued}
 use Rattle.format.proofs.ByteLaws.{within-is, within-true}
 use Rattle.format.proofs.FieldLaws.{inline}
@@ -28,8 +28,8 @@ use Rattle.format.proofs.FormulaBack.{PrintableEntry, AllPrintable, formula-inl
 use Rattle.format.proofs.RowLaws.{FineAtom, atom-fine}
 use Rattle.format.proofs.TextLaws.{valued-allowed}
 use Rattle.format.proofs.TotalLaws.{isotope-is, isotope-refl, share, total-nil, total-cons, total-some, kinds-nil, kinds-again, kinds-new, kinds-any, entries-bare, entries-implied, entries-counted}
-use Rattle.demands.proofs.WayBackLines.{stateOf, Through, through-line, record-full, record-allowed, inline-fine}
-use Rattle.demands.proofs.WayBackLabels.{Written, formulaLabel, formula-written, label-value}
+use Rattle.demands.proofs.WayBackLines.{stateOf, Through, through-line, record-full, inline-fine}
+use Rattle.demands.proofs.WayBackLabels.{formulaLabel, formula-written, label-value}
 
 -- A KIND THAT IS FINE: a known element, a mass in range
 abbrev pub kindOk : ℕ → Isotope → Bool

@@ -2,21 +2,20 @@
 -- record of one line. Serves document 01, demand 2 ("the way back"). Assumes nothing.
 use Prim.Native.Nat.{ℕ, _+_, _-_}
 use mathlib.Core.Path.{_≡_, refl, sym, ap, _∙_}
-use mathlib.Core.Bool.{Bool, true, false, not, _&&_}
+use mathlib.Core.Bool.{true, false}
 use mathlib.Core.List.{List, [], _∷_, _++_, append-assoc}
-use lib.ListN.{length, length-append}
+use lib.ListN.{length}
 use Rattle.lists.specs.Lists.{isNil, all}
 use Rattle.lists.proofs.Bools.{and-left-false}
-use Rattle.lists.proofs.ListLaws.{all-append-both, all-imply, all-both, all-nil}
+use Rattle.lists.proofs.ListLaws.{all-append-both, all-imply, all-both}
 use Rattle.format.specs.Bytes.{Bytes, allowed, cut, isLabel}
-use Rattle.format.specs.Labels.{Holds, Label, misplaced, Line, Plain, Labelled, lineOf}
+use Rattle.format.specs.Labels.{Holds, Label, misplaced, Plain, Labelled, lineOf}
 use Rattle.format.specs.Structure.{Entry, Structure}
 use Rattle.format.specs.Writing.{valued}
 use Rattle.format.specs.Reading.{Rules, State, Prose, Go, past, over, opened, valueTurn, furtherTurn, lineStep, readLines}
 use Rattle.format.proofs.CutLaws.{feedless, full, cut-line}
 use Rattle.format.proofs.FieldLaws.{inline, inline-allowed}
 use Rattle.format.proofs.RowLines.{full-snoc, inline-feedless}
-use Rattle.format.proofs.TextLaws.{valued-allowed}
 use Rattle.format.proofs.ReadingLaws.{step-on, line-plain, line-value, read-go}
 
 -- a state by its six parts
@@ -64,9 +63,6 @@ module _ (h v : Bytes) where
       go : (w : Bytes) → all inline w ≡ true → full (h ++ valued w) ≡ true
       go [] j = full-snoc h f
       go (b ∷ w) j = ap full (sym (append-assoc h (32 ∷ b ∷ w) (10 ∷ []))) ∙ full-snoc (h ++ (32 ∷ b ∷ w)) (all-append-both _ h (32 ∷ b ∷ w) f (inline-feedless (32 ∷ b ∷ w) (all-both inline 32 (b ∷ w) refl j)))
-
-  pub record-allowed : all allowed h ≡ true → all allowed v ≡ true → all allowed (h ++ valued v) ≡ true
-  record-allowed f i = all-append-both allowed h (valued v) f (valued-allowed v i)
 
 pub inline-fine : (v : Bytes) → all inline v ≡ true → all allowed v ≡ true
 inline-fine v i = all-imply inline allowed inline-allowed v i

@@ -1,9 +1,8 @@
 -- The way back, from the atoms on: the five lists in their order and END, whichever of the lists are left out. Serves document 01, demand 2. Assumes nothing.
 use Prim.Native.Nat.{ℕ, _+_, _≤_, _<_}
-use mathlib.Core.Path.{_≡_, refl, sym, ap, _∙_}
-use mathlib.Core.Bool.{Bool, true, false, not, _&&_}
+use mathlib.Core.Path.{_≡_, refl, ap, _∙_}
+use mathlib.Core.Bool.{true, false, not}
 use mathlib.Core.List.{List, [], _∷_, _++_, reverse}
-use native.Mathlib.Omega.{arith}
 use lib.ListN.{length}
 use lib.Dec.{leb}
 use borrow.Author.Tests.{leb-true, not-true}
@@ -16,7 +15,7 @@ use Rattle.format.specs.Bytes.{Bytes, bytes, cut}
 use Rattle.format.specs.Labels.{ListOf, Bonds, Charges, Radicals, Centres, Pairs, Holds, End, Label, label, misplaced}
 use Rattle.format.specs.Rows.{Row}
 use Rattle.format.specs.Structure.{Atom, Entry, entriesOf, agree, Structure, rowsOf, lists, most, meets, rowBefore, rowOk, rowsOk}
-use Rattle.format.specs.Reading.{Rules, State, Prose, over, lacks, withRows, Accepted, ending, readLines}
+use Rattle.format.specs.Reading.{Rules, State, Prose, over, lacks, withRows, Accepted, readLines}
 use Rattle.format.specs.Writing.{valued, printRows}
 use Rattle.format.proofs.CutLaws.{cut-nil}
 use Rattle.format.proofs.ReadingLaws.{read-end}

@@ -1,33 +1,30 @@
 -- The way back, the records of one value: the three texts, the version, the block id and END, each read as it is written. Serves document 01, demand 2. Assumes
 -- nothing.
-use Prim.Native.Nat.{ℕ, zero, suc, _+_, _-_, _<_}
-use mathlib.Core.Path.{_≡_, refl, sym, ap, _∙_}
+use Prim.Native.Nat.{ℕ, suc, _+_, _-_, _<_}
+use mathlib.Core.Path.{_≡_, refl, ap, _∙_}
 use mathlib.Core.Bool.{Bool, true, false, not, _&&_, _||_}
-use mathlib.Core.Option.{Option, some}
+use mathlib.Core.Option.{some}
 use mathlib.Core.List.{List, [], _∷_, _++_}
 use native.Mathlib.Omega.{arith}
-use native.Mathlib.Nat.{add-zero}
 use lib.ListN.{length, length-append}
 use lib.Dec.{eqb}
 use borrow.Author.Tests.{ne-eqb}
 use Rattle.lists.specs.Lists.{isNil, all, any}
 use Rattle.lists.proofs.Bools.{or-neither}
-use Rattle.lists.proofs.ListLaws.{all-nil, all-append-both}
+use Rattle.lists.proofs.ListLaws.{all-append-both}
 use Rattle.format.specs.Bytes.{Bytes, bytes, allowed, fields, strip}
-use Rattle.format.specs.Labels.{Holds, Text, Version, BlockId, End, Skipped, Label, label, misplaced, titleLine}
-use Rattle.format.specs.Rows.{number}
+use Rattle.format.specs.Labels.{Holds, Text, Version, BlockId, End, Skipped, Label, label, misplaced}
 use Rattle.format.specs.Structure.{Entry, entriesOf, agree, Structure}
-use Rattle.format.specs.Reading.{Rules, State, Prose, prose, Go, over, opened, withId, withText, idValue, idTurn, lacks, versionTurn, endTurn, valueTurn, lineStep, start}
+use Rattle.format.specs.Reading.{Rules, State, Prose, prose, Go, over, withId, idTurn, lacks, endTurn, valueTurn, lineStep, start}
 use Rattle.format.specs.Table.{textFine}
-use Rattle.format.specs.Writing.{digits, valued, printId, printRecord}
-use Rattle.format.proofs.CutLaws.{full}
-use Rattle.format.proofs.FieldLaws.{inline, printed-inline, strip-value, value-back, value-none}
+use Rattle.format.specs.Writing.{digits, valued}
+use Rattle.format.proofs.FieldLaws.{inline, printed-inline, strip-value, value-back}
 use Rattle.format.proofs.NumberLaws.{number-back, printed-number, digits-printed}
 use Rattle.format.proofs.TextLaws.{valued-allowed}
 use Rattle.format.proofs.ReadingLaws.{step-on, line-value}
 use Rattle.format.proofs.Computing.{computing}
-use Rattle.demands.proofs.WayBackLines.{stateOf, Through, through-nil, through-to, through-line, record-full, inline-fine}
-use Rattle.demands.proofs.WayBackLabels.{Written, titleLabel, title-written, title-line, versionLabel, version-written, originLabel, origin-written, ownerLabel, owner-written, idLabel, id-written, endLabel, end-written, label-value}
+use Rattle.demands.proofs.WayBackLines.{stateOf, Through, through-line, record-full, inline-fine}
+use Rattle.demands.proofs.WayBackLabels.{titleLabel, title-written, title-line, versionLabel, version-written, originLabel, origin-written, ownerLabel, owner-written, idLabel, id-written, endLabel, end-written, label-value}
 use Rattle.demands.proofs.WayBackTexts.{text-through, text-first}
 use Rattle.demands.proofs.WayBackRows.{three, nothing-more, bare-full, bare-fine}
 

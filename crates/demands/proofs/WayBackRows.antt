@@ -1,6 +1,6 @@
 -- The way back, the five lists: a list's label and its printed rows are read as those rows, latest first, and sorted back to the list. Stated once, over the list
 -- l. Serves document 01, demand 2 ("Row rules shared by several lists are proved once"). Assumes nothing.
-use Prim.Native.Nat.{ℕ, zero, suc, _+_, _≤_, _<_}
+use Prim.Native.Nat.{ℕ, _+_, _≤_, _<_}
 use mathlib.Core.Path.{_≡_, refl, sym, ap, _∙_}
 use mathlib.Core.Bool.{Bool, true, false, not, _||_}
 use mathlib.Core.Option.{some}
@@ -8,13 +8,12 @@ use mathlib.Core.List.{List, [], _∷_, _++_, append-nil, reverse, reverseAux}
 use native.Mathlib.Omega.{arith}
 use native.Mathlib.Nat.{add-zero}
 use lib.ListN.{length, length-append}
-use lib.Dec.{eqb, ltb, leb}
+use lib.Dec.{eqb, ltb}
 use borrow.Author.Tests.{eqb-true, lt-leb, not-true}
 use Rattle.lists.specs.Lists.{isNil, all, any, pairs, flat}
-use Rattle.lists.specs.Order.{Perm, sort, ascends, level}
+use Rattle.lists.specs.Order.{sort, ascends, level}
 use Rattle.lists.proofs.Bools.{torn, never, ltb-same}
 use Rattle.lists.proofs.ListLaws.{all-nil, all-parts, any-parts, any-imply}
-use Rattle.lists.proofs.PartLaws.{flat-nil, flat-cons}
 use Rattle.lists.proofs.PairLaws.{pairs-parts, pairs-within, cross, cross-nil, cross-cons}
 use Rattle.lists.proofs.LexLaws.{ltb-strict}
 use Rattle.lists.proofs.FoldLaws.{reverse-perm}
@@ -23,7 +22,7 @@ use Rattle.format.specs.Bytes.{Bytes, bytes, allowed, fields, strip, within, cu
 use Rattle.format.specs.Labels.{ListOf, Bonds, Charges, Radicals, Centres, Pairs, Holds, Rows, Label, misplaced}
 use Rattle.format.specs.Rows.{Row, row, rowShape}
 use Rattle.format.specs.Structure.{Entry, Structure, rowsOf, most, ranged, meets, clash, rowBefore, rowOk}
-use Rattle.format.specs.Reading.{Rules, State, Turn, Go, Stop, if_stop_else_, Prose, over, withRows, ordered, joined, joinTurn, rowTurn, unlessBlank, rowLine, lacks, valueTurn, furtherTurn, lineStep, readLines}
+use Rattle.format.specs.Reading.{Rules, State, Turn, Go, if_stop_else_, Prose, over, withRows, ordered, joinTurn, rowTurn, unlessBlank, rowLine, lacks, valueTurn, furtherTurn, lineStep, readLines}
 use Rattle.format.specs.Writing.{line, rowWords, valued, printRecord, listLabel, printRows}
 use Rattle.format.proofs.CutLaws.{feedless, full}
 use Rattle.format.proofs.FieldLaws.{inline, strip-value, value-none}
@@ -32,7 +31,7 @@ use Rattle.format.proofs.RowLines.{RowLine}
 use Rattle.format.proofs.RowLaws.{FineRow, row-fine, shape-back, printed-row, row-some}
 use Rattle.format.proofs.OrderLaws.{row-strict, meets-symm, clash-none}
 use Rattle.demands.proofs.WayBackLines.{stateOf, Through, through-nil, through-both, through-to, through-line, plain-step, record-full}
-use Rattle.demands.proofs.WayBackLabels.{Written, labelOf, list-written, list-holds, list-known, label-value, free, follows, free-more, had-more}
+use Rattle.demands.proofs.WayBackLabels.{labelOf, list-written, list-holds, list-known, label-value, free, follows, free-more, had-more}
 
 -- A STRUCTURE WITH OTHER ROWS in a list
 pub with-atoms : (l : ListOf) (rs : List Row) (s : Structure) → withRows l rs s .atoms ≡ s .atoms
@@ -92,14 +91,14 @@ module _ (l : ListOf) (at : ℕ) (seen : List Label) (texts : List Prose) (f : L
   abbrev here : State
   here = stateOf at seen (Rows l) texts f s
 
-  abbrev then′ : State
-  then′ = stateOf at seen (Rows l) texts f (withRows l (r ∷ acc) s)
+  abbrev after : State
+  after = stateOf at seen (Rows l) texts f (withRows l (r ∷ acc) s)
 
-  join-new : joinTurn l here acc r ≡ Go then′
+  join-new : joinTurn l here acc r ≡ Go after
   unfolding joinTurn
   join-new = rw (any-imply (meets l r) (clash l r) (clash-none l r) acc new, new, lt-leb (most l) (length acc) room) refl
 
-  row-taken : rowTurn l here (some r) ≡ Go then′
+  row-taken : rowTurn l here (some r) ≡ Go after
   unfolding rowTurn
   row-taken =
       let F : FineRow l n r = row-fine l n r ok in
@@ -109,7 +108,7 @@ module _ (l : ListOf) (at : ℕ) (seen : List Label) (texts : List Prose) (f : L
       three (not (ranged l (r .value))) (not (all (within 1 (length (s .atoms))) (r .atoms))) (pairs eqb (r .atoms)) 10 11 13 (joinTurn l here (rowsOf l s) (ordered r)) a b (ascending-once (r .atoms) (F .ascending))
       ∙ ap (λ (rs : List Row). joinTurn l here rs (ordered r)) held ∙ ap (joinTurn l here acc) o ∙ join-new
 
-  pub row-step : (u : Rules) → n < 1000000 → isNil seen ≡ false → lineStep u here (line (rowWords l r)) ≡ Go then′
+  pub row-step : (u : Rules) → n < 1000000 → isNil seen ≡ false → lineStep u here (line (rowWords l r)) ≡ Go after
   unfolding furtherTurn rowLine
   row-step u small begun =
       let R : RowLine (rowWords l r) (line (rowWords l r)) = printed-row n r l ok in

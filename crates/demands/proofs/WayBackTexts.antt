@@ -8,7 +8,7 @@ use native.Mathlib.Omega.{arith}
 use native.Mathlib.Nat.{add-zero}
 use lib.ListN.{length, getD, set, take, drop, length-append}
 use lib.Seq.{take-append-seam, drop-append-seam}
-use lib.Dec.{eqb, leb}
+use lib.Dec.{eqb}
 use borrow.Author.Tests.{le-leb}
 use Rattle.lists.specs.Lists.{isNil, all, concat}
 use Rattle.lists.proofs.Bools.{and-both}

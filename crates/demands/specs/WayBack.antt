@@ -2,12 +2,13 @@
 -- Assumes nothing.
 use Prim.Native.Nat.{ℕ}
 use mathlib.Core.Path.{_≡_}
-use mathlib.Core.Bool.{true}
+use mathlib.Core.Bool.{true, false}
 use mathlib.Core.List.{List, [], _∷_, _++_, map}
-use lib.ListN.{length, take, drop}
+use lib.ListN.{take, drop}
 use lib.IntN.{ℤ}
-use Rattle.lists.specs.Lists.{all}
-use Rattle.format.specs.Bytes.{Bytes}
+use Rattle.lists.specs.Lists.{all, any}
+use Rattle.format.specs.Bytes.{Bytes, cut}
+use Rattle.format.specs.Labels.{titleLine, endLine}
 use Rattle.format.specs.Structure.{Structure}
 use Rattle.format.specs.Reading.{Span, Read, strict, readBlock}
 use Rattle.format.specs.Table.{encode, decode, spansOf, textAt, textOk, readAnswer, readResult}
@@ -41,3 +42,14 @@ pub record TableBack (k : ℕ) (t : List ℤ) (b buffer : Bytes) (into : List �
   pub reads : readResult k (formOf t b) into ≡ readAnswer 0 0 (encode (decode t) (title ∷ origin ∷ owner ∷ []) ++ drop 3856 into)
   pub same-numbers : withoutTexts (encode (decode t) (title ∷ origin ∷ owner ∷ [])) ≡ withoutTexts (take 3856 t)
   pub same-texts : map (textAt (formOf t b)) (title ∷ origin ∷ owner ∷ []) ≡ map (textAt b) (spansOf t)
+
+-- the lines of a form: the first is a TITLE line and no other is, the last is an END line and no other is
+pub record OneBlock (form : Bytes) : Type 0 where
+  pub first : Bytes
+  pub middle : List Bytes
+  pub last : Bytes
+  pub lines : cut form ≡ first ∷ (middle ++ (last ∷ []))
+  pub title-first : titleLine first ≡ true
+  pub title-once : any titleLine (middle ++ (last ∷ [])) ≡ false
+  pub end-last : endLine last ≡ true
+  pub end-once : any endLine (first ∷ middle) ≡ false
