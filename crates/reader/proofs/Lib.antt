@@ -29,3 +29,4 @@ pub mod AtomPartLaws
 pub mod KeyedLines
 pub mod LineTurnLaws
 pub mod StepTurnLaws
+pub mod PublishLaws
