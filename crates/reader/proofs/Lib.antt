@@ -30,3 +30,9 @@ pub mod KeyedLines
 pub mod LineTurnLaws
 pub mod StepTurnLaws
 pub mod PublishLaws
+pub mod PlaceLaws
+pub mod AppearLaws
+pub mod NumberingLaws
+pub mod RenumberLaws
+pub mod OrderingLaws
+pub mod SortedValueLaws

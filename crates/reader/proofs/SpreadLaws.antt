@@ -70,6 +70,10 @@ module _ (n : ℕ) where
       go false e = member-out r rs (h ∙ e) ∙ sym (member-out q rs e)
 
 -- THE CELLS OF THE ATOMS
+pub members-zero : (n : ℕ) (rs : List Row) → membersFrom 0 n rs ≡ []
+unfolding membersFrom
+members-zero n rs = refl
+
 pub members-suc : (k n : ℕ) (rs : List Row) → membersFrom (suc k) n rs ≡ memberOf n rs ∷ membersFrom k (suc n) rs
 unfolding membersFrom
 members-suc k n rs = refl
@@ -121,7 +125,7 @@ members-set k n i ps v rs h =
         let b : j < k = omega (arith, g, length-set (membersFrom k n old) i (suc (length rs)), members-length k n old) in
         here j b (eqb j i) refl ∙ sym (members-at k n new j b)
 
-getD-front : (xs ys : List ℕ) (i : ℕ) → i < length xs → getD (xs ++ ys) i 0 ≡ getD xs i 0
+pub getD-front : (xs ys : List ℕ) (i : ℕ) → i < length xs → getD (xs ++ ys) i 0 ≡ getD xs i 0
 getD-front xs ys i h = sym (getD-take (length xs) (xs ++ ys) i 0 h) ∙ ap (λ (l : List ℕ). getD l i 0) (take-append-seam xs ys)
 
 -- A ROW'S CLAIM: nothing where it clashes
@@ -291,7 +295,7 @@ module _ (rs : List Row) (few : length rs ≤ 64) where
   front-length : (qs : List Row) → length (membersFrom 256 1 qs ++ filled 0 64 (arrived rs)) ≡ 320
   front-length qs = length-append (membersFrom 256 1 qs) (filled 0 64 (arrived rs)) ∙ omega (arith, members-length 256 1 qs, values-length)
 
-  last-cell : getD (spreadRegion rs) 320 0 ≡ voidOf rs
+  pub last-cell : getD (spreadRegion rs) 320 0 ≡ voidOf rs
   last-cell =
       ap (λ (l : List ℕ). getD l 320 0) (region-is rs ∙ sym (append-assoc (membersFrom 256 1 rs) (filled 0 64 (arrived rs)) (voidOf rs ∷ [])))
       ∙ getD-at (membersFrom 256 1 rs ++ filled 0 64 (arrived rs)) (voidOf rs) [] 0 320 (front-length rs)

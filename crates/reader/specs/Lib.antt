@@ -11,3 +11,4 @@ pub mod Taking
 pub mod Published
 pub mod Members
 pub mod Lines
+pub mod Numbering

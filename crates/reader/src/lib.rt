@@ -10,4 +10,5 @@ mod seen; // seen.rt: the labels seen so far and their order
 mod values; // values.rt: the values that stand on their label line
 mod totals; // totals.rt: the formula against the atoms
 mod spread; // spread.rt: CHARGE and RADICAL
+mod numbering; // numbering.rt: charge and radical rows in order
 mod keyed; // keyed.rt: lines of bonds, centres and pairs
