@@ -29,6 +29,7 @@ pub mod AtomPartLaws
 pub mod KeyedLines
 pub mod LineTurnLaws
 pub mod StepTurnLaws
+pub mod PublishLaws
 pub mod PlaceLaws
 pub mod AppearLaws
 pub mod NumberingLaws

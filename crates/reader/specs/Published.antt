@@ -3,7 +3,7 @@ use Prim.Native.Nat.{ℕ, zero, suc, _+_, _-_, _*_, _/_, _%_, _≤_, _<_}
 use mathlib.Core.Path.{_≡_}
 use mathlib.Core.List.{List, [], _∷_, _++_}
 use mathlib.Core.Bool.{true, false}
-use lib.ListN.{length, getD}
+use lib.ListN.{length, getD, take, drop}
 use lib.IntN.{ℤ, pos, negℤ}
 use lib.Dec.{ltb}
 use lib.Seq.{sets}
@@ -77,6 +77,20 @@ gathered out (suc n) = gathered out n ++ out n
 -- the atoms' region of the table
 unfoldable pub atomsOut : (kinds charges charge-order radicals radical-order : List ℕ) → (n : ℕ) → List ℤ
 atomsOut kinds cs co rs ro n = filled (pos 0) 1280 (gathered (atomOut kinds cs co rs ro) n)
+
+-- the rows' regions of the table: the values, the centres and pairs, all of them
+unfoldable pub spreadOut : Progress → (charges radicals : List ℕ) → List ℤ
+spreadOut p cs rs = copied 1 valueOut 64 (p .charges) cs ++ copied 1 valueOut 64 (p .radicals) rs
+
+unfoldable pub markedOut : Progress → (scratch : List ℕ) → List ℤ
+markedOut p t = copied 2 centreOut 384 (p .centres) (take 256 (drop 2434 t)) ++ copied 2 pairOut 512 (p .pairs) (take 256 (drop 2690 t))
+
+unfoldable pub rowsOut : Progress → (scratch charges radicals : List ℕ) → List ℤ
+rowsOut p t cs rs = copied 2 bondOut 1536 (p .bonds) (take 1024 (drop 1410 t)) ++ (spreadOut p cs rs ++ markedOut p t)
+
+-- the whole table
+unfoldable pub tableOut : (block : Bytes) → Progress → (scratch charge-order charges radical-order radicals : List ℕ) → List ℤ
+tableOut block p t co cs ro rs = headerOut block p ++ (atomsOut (take 768 t) (take 321 (drop 768 t)) co (take 321 (drop 1089 t)) ro (p .atoms) ++ rowsOut p t cs rs)
 
 -- What a renumbering of charge or radical rows says: for each atom its row's number among the sorted rows, and the sorted rows' values as codes
 pub record Renumbers (rs : List Row) (order values : List ℕ) : Type 0 where

@@ -3,6 +3,7 @@ mod after; // after.rt: what a line leaves of its list
 mod fill; // fill.rt: the regions of the table
 mod header; // header.rt: the first sixteen numbers of the table
 mod progress; // progress.rt: what is known before a line
+mod publish; // publish.rt: the structure in the table
 mod records; // records.rt: the atoms of the table, charge and radical values
 mod join; // join.rt: a row put to its place in a sorted list
 mod seen; // seen.rt: the labels seen so far and their order

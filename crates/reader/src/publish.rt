@@ -1,0 +1,74 @@
+// An accepted block's structure in the lent table: document 01, "The structure table" ("3,856 signed 32-bit numbers; unused ones are 0"). Every one of the 3,856
+// numbers is put there, whatever stood there before; those beyond stay.
+ghost use mathlib.Core.Path.{_≡_};
+ghost use mathlib.Core.List.{_++_};
+ghost use Prim.Native.Nat.{_≤_};
+ghost use lib.ListN.{length, drop};
+ghost use Rattle.reader.specs.Progress.{Counted, Bounded};
+ghost use Rattle.reader.specs.Published.{spreadOut, markedOut, rowsOut, tableOut};
+use crate::fill;
+use crate::header;
+use crate::progress::Progress;
+use crate::records;
+use format::Table;
+
+// The charge values and the radical values, in the order of the sorted rows.
+fn fill_spread(part: &mut [i32], p: Progress, charges: &[u32], radicals: &[u32])
+    requires { ⌜ (length (now part) ≡ 128) × Counted p × (length (now charges) ≡ 64) × (length (now radicals) ≡ 64) ⌝ }
+    ensures { λ _. ⌜ now (part .exit) ≡ spreadOut p (now (charges .entry)) (now (radicals .entry)) ⌝ }
+{
+    records::fill_values(&mut part[0..Table::CHARGES], charges, p.charges);
+    records::fill_values(&mut part[Table::CHARGES..128], radicals, p.radicals);
+}
+
+// The centres and the pairs.
+fn fill_marked(part: &mut [i32], p: Progress, scratch: &[u32])
+    requires { ⌜ (length (now part) ≡ 896) × Counted p × (length (now scratch) ≡ 2960) ⌝ }
+    ensures { λ _. ⌜ now (part .exit) ≡ markedOut p (now (scratch .entry)) ⌝ }
+{
+    fill::fill_centres(&mut part[0..384], &scratch[2434..2690], p.centres);
+    fill::fill_pairs(&mut part[384..896], &scratch[2690..2946], p.pairs);
+}
+
+// All five lists of rows.
+fn fill_rows(part: &mut [i32], p: Progress, scratch: &[u32], charges: &[u32], radicals: &[u32])
+    requires { ⌜ (length (now part) ≡ 2560) × Counted p × (length (now scratch) ≡ 2960) × (length (now charges) ≡ 64) × (length (now radicals) ≡ 64) ⌝ }
+    ensures { λ _. ⌜ now (part .exit) ≡ rowsOut p (now (scratch .entry)) (now (charges .entry)) (now (radicals .entry)) ⌝ }
+{
+    fill::fill_bonds(&mut part[0..1536], &scratch[1410..2434], p.bonds);
+    fill_spread(&mut part[1536..1664], p, charges, radicals);
+    fill_marked(&mut part[1664..2560], p, scratch);
+}
+
+// The whole table, region by region.
+fn fill_table(
+    table: &mut [i32],
+    block: &[u8],
+    p: Progress,
+    scratch: &[u32],
+    charge_order: &[u32],
+    charges: &[u32],
+    radical_order: &[u32],
+    radicals: &[u32],
+)
+    requires { ⌜ (3856 ≤ length (now table)) × (length (now scratch) ≡ 2960) × Bounded (length (now block)) p × (length (now block) ≤ 32768) × (length (now charges) ≡ 64) × (length (now radicals) ≡ 64) ⌝ }
+    ensures { λ _. ⌜ now (table .exit) ≡ tableOut (now (block .entry)) p (now (scratch .entry)) (now («charge_order» .entry)) (now (charges .entry)) (now («radical_order» .entry)) (now (radicals .entry)) ++ drop 3856 (now (table .entry)) ⌝ }
+{
+    header::fill_header(&mut table[0..Table::FIRST_ATOM], block, p);
+    records::fill_atoms(
+        &mut table[Table::FIRST_ATOM..Table::FIRST_BOND],
+        &scratch[0..768],
+        &scratch[768..1089],
+        charge_order,
+        &scratch[1089..1410],
+        radical_order,
+        p.atoms,
+    );
+    fill_rows(
+        &mut table[Table::FIRST_BOND..Table::SIZE],
+        p,
+        scratch,
+        charges,
+        radicals,
+    );
+}
