@@ -11,19 +11,20 @@ use Rattle.format.specs.Labels.{endLine}
 use Rattle.format.specs.Structure.{Isotope, Entry, total, agree, Structure, wellFormed}
 use Rattle.format.specs.Table.{zeros, textFine, sound, readAnswer, readResult}
 use Rattle.format.specs.Writing.{canonical, formOf, unwritten, writeResult}
-use Rattle.format.specs.Walking.{pieces, answers}
+use Rattle.format.specs.Walking.{block, piece, pieces, answers}
 use Rattle.format.proofs.TotalLaws as totals
 use Rattle.demands.specs.Cases.{judged}
 use Rattle.demands.specs.Starred.{starred}
 use Rattle.demands.specs.Neighbours.{neighbours}
 use Rattle.demands.specs.Examples.{formicInput, formicWritten, formicTable, neon, wrongNeon}
 use Rattle.demands.specs.Stretches.{closing, opening, moved, _then_, Chain, steps}
-use Rattle.demands.specs.WayBack.{ReadBack, TableBack}
+use Rattle.demands.specs.WayBack.{ReadBack, TableBack, OneBlock}
 use Rattle.demands.proofs.Worked as worked
 use Rattle.demands.proofs.Refused as refused
 use Rattle.demands.proofs.Stretches as stretches
 use Rattle.demands.proofs.WayBack as back
 use Rattle.demands.proofs.WayBackTables as tables
+use Rattle.demands.proofs.WayBackWalk as walk
 
 -- DEMAND 1
 -- "A refused reading zeroes the structure table, save where that table is too short and is untouched."
@@ -69,6 +70,15 @@ way-back = back.way-back
 pub table-back : (k : ℕ) (t : List ℤ) (b buffer : Bytes) (into : List ℤ) → k ≤ 103 → 3856 ≤ length t → sound k t b ≡ true → length (formOf t b) ≤ 32768 → length (formOf t b) ≤ length buffer →
     3856 ≤ length into → TableBack k t b buffer into
 table-back = tables.table-back
+
+-- only a form's first line is a TITLE line and only its last an END line; in a file by itself it is one block
+pub canonical-lines : (k : ℕ) (s : Structure) (title origin owner : Bytes) → k ≤ 103 → wellFormed k s ≡ true → all textFine (title ∷ origin ∷ owner ∷ []) ≡ true →
+    length (canonical s (title ∷ origin ∷ owner ∷ [])) ≤ 32768 → OneBlock (canonical s (title ∷ origin ∷ owner ∷ []))
+canonical-lines = walk.canonical-lines
+
+pub canonical-piece : (k : ℕ) (s : Structure) (title origin owner : Bytes) → k ≤ 103 → wellFormed k s ≡ true → all textFine (title ∷ origin ∷ owner ∷ []) ≡ true →
+    length (canonical s (title ∷ origin ∷ owner ∷ [])) ≤ 32768 → pieces (canonical s (title ∷ origin ∷ owner ∷ [])) ≡ piece block 0 (length (canonical s (title ∷ origin ∷ owner ∷ []))) ∷ []
+canonical-piece = walk.canonical-piece
 
 -- DEMAND 3
 -- "Take a file of three stretches, within the file limit: the first empty or ending with a block closed by its END line and line feed; the second anything,

@@ -13,4 +13,5 @@ pub mod WayBackLists
 pub mod WayBack
 pub mod WayBackTables
 pub mod WayBackForm
+pub mod WayBackWalk
 pub mod Demands
