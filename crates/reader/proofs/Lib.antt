@@ -18,6 +18,7 @@ pub mod TallyLaws
 pub mod AnswerLaws
 pub mod FillLaws
 pub mod MemberLaws
+pub mod PlaceLaws
 pub mod SpreadLaws
 pub mod SpreadRowLaws
 pub mod HeaderLaws
@@ -30,7 +31,6 @@ pub mod KeyedLines
 pub mod LineTurnLaws
 pub mod StepTurnLaws
 pub mod PublishLaws
-pub mod PlaceLaws
 pub mod AppearLaws
 pub mod NumberingLaws
 pub mod RenumberLaws

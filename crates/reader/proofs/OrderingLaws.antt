@@ -12,11 +12,15 @@ use borrow.Author.Tests.{eq-eqb, ne-eqb, le-leb, lt-leb}
 use Rattle.lists.specs.Lists.{filled}
 use Rattle.lists.proofs.Bools.{and-both, and-left-false, and-right-false}
 use Rattle.lists.proofs.PartLaws.{filled-length, filled-take}
+use Rattle.lists.specs.Order.{sort}
 use Rattle.format.specs.Rows.{Row}
+use Rattle.format.specs.Structure.{rowBefore}
+use Rattle.format.specs.Table.{rowWith}
 use Rattle.reader.specs.Regions.{Fits, memberOf, membersFrom, voidOf, arrived, spreadRegion}
 use Rattle.reader.specs.Members.{listOf}
 use Rattle.reader.specs.Numbering.{isNew, nextAfter, orderAfter, numbered, withVoid, Renumbered, putAt, through}
-use Rattle.reader.proofs.SpreadLaws.{members-zero, members-suc, members-length, arrived-length, region-is, last-cell}
+use Rattle.reader.proofs.PlaceLaws.{getD-front, arrived-length}
+use Rattle.reader.proofs.SpreadLaws.{members-zero, members-suc, members-at, members-length, region-is, last-cell}
 use Rattle.reader.proofs.NumberingLaws.{numbered-cons, numbered-nil}
 use Rattle.reader.proofs.RenumberLaws.{renumbered}
 
@@ -138,3 +142,11 @@ module _ (region order : List ℕ) (rows : ℕ) (fits : 256 + rows ≤ length re
 
   pub through-end : (i : ℕ) (t : List ℕ) → rows ≤ i → through order i (take (rows - i) (drop (256 + i) region)) t ≡ t
   through-end i t h = let e : rows - i ≡ 0 = omega arith in ap (λ (n : ℕ). through order i (take n (drop (256 + i) region)) t) e ∙ through-nil order i t
+
+-- the cell of an atom, through the order: the number of the atom's row in the sorted list
+pub cell-number : (rs : List Row) (order : List ℕ) → Renumbered rs order → (i : ℕ) → i < 256 → getD order (getD (spreadRegion rs) i 0) 0 ≡ rowWith 1 (suc i) (sort rowBefore rs)
+cell-number rs order R i h =
+    let l = members-length 256 1 rs in
+    let e : 1 + i ≡ suc i = omega arith in
+    ap (λ (k : ℕ). getD order k 0) (ap (λ (t : List ℕ). getD t i 0) (region-is rs) ∙ getD-front (membersFrom 256 1 rs) (filled 0 64 (arrived rs) ++ (voidOf rs ∷ [])) i (omega (arith, l))
+    ∙ members-at 256 1 rs i h ∙ ap (λ (n : ℕ). memberOf n rs) e) ∙ R .members (suc i)

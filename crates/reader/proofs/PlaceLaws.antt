@@ -6,18 +6,25 @@ use mathlib.Core.Bool.{Bool, true, false, _&&_}
 use mathlib.Core.Option.{Option, none, some}
 use mathlib.Core.List.{List, [], _∷_, _++_, map}
 use native.Mathlib.Omega.{arith}
-use lib.ListN.{length, getD}
-use lib.Seq.{getD-at}
+use lib.ListN.{length, getD, length-append}
+use lib.Seq.{getD-at, getD-take, take-append-seam}
 use lib.Dec.{eqb}
 use borrow.Author.Tests.{eqb-true}
-use Rattle.lists.specs.Lists.{any, pairs}
+use Rattle.lists.specs.Lists.{isNil, any, pairs}
 use Rattle.lists.proofs.Bools.{torn, and-both, and-left-false, and-right-false, eqb-same, never}
 use Rattle.lists.proofs.ListLaws.{any-nil, any-hit, any-miss, any-later, any-parts, any-same}
 use Rattle.lists.proofs.PairLaws.{pairs-parts}
+use Rattle.format.specs.Bytes.{isIn}
 use Rattle.format.specs.Rows.{Row}
 use Rattle.format.specs.Table.{rowWith}
 use Rattle.reader.specs.Regions.{memberOf, coded, arrived, voidOf}
-use Rattle.reader.proofs.SpreadLaws.{has, void, getD-front, arrived-length, arrived-more}
+
+-- whether a row has the atom, and whether it has none
+abbrev pub has : ℕ → Row → Bool
+has n r = isIn n (r .atoms)
+
+abbrev pub void : Row → Bool
+void r = isNil (r .atoms)
 
 -- what tells a row: an atom of it, or that it has none
 abbrev pub tells : Option ℕ → Row → Bool
@@ -190,6 +197,19 @@ module _ (p q : Row → Bool) where
       go false true f g ih = torn (any q rs) (any-right rs (sym (any-miss (λ x. p x && q x) r rs (and-left-false (p r) (q r) f)) ∙ h)) (alone-in q r rs b g)
       go false false f g ih =
           front-out p from r rs f ∙ ih (sym (any-miss (λ x. p x && q x) r rs (and-left-false (p r) (q r) f)) ∙ h) ∙ sym (front-out q from r rs g)
+
+pub getD-front : (xs ys : List ℕ) (i : ℕ) → i < length xs → getD (xs ++ ys) i 0 ≡ getD xs i 0
+getD-front xs ys i h = sym (getD-take (length xs) (xs ++ ys) i 0 h) ∙ ap (λ (l : List ℕ). getD l i 0) (take-append-seam xs ys)
+
+-- THE VALUES, as the rows came
+pub arrived-length : (rs : List Row) → length (arrived rs) ≡ length rs
+unfolding arrived
+arrived-length [] = refl
+arrived-length (r ∷ rs) = length-append (arrived rs) (coded (r .value) ∷ []) ∙ omega (arith, arrived-length rs)
+
+pub arrived-more : (r : Row) (rs : List Row) → arrived (r ∷ rs) ≡ arrived rs ++ (coded (r .value) ∷ [])
+unfolding arrived
+arrived-more r rs = refl
 
 -- THE VALUE of the row that a test tells
 abbrev pub codeOf : Row → ℕ

@@ -27,8 +27,8 @@ use Rattle.reader.specs.Regions.{Fits, membersFrom, voidOf, arrived}
 use Rattle.reader.specs.Members.{listOf}
 use Rattle.reader.specs.Numbering.{isNew, nextAfter, orderAfter, numbered, withVoid, Renumbered}
 use Rattle.reader.proofs.FitLaws.{row-fits}
-use Rattle.reader.proofs.SpreadLaws.{has, void, members-zero, members-suc}
-use Rattle.reader.proofs.PlaceLaws.{tells, backOf, frontOf, codeOf, back-none, front-none, back-some, front-some, any-at, back-at, front-at, back-both, front-both, back-same, front-same, back-value, front-value, member-back, void-back, with-front}
+use Rattle.reader.proofs.SpreadLaws.{members-zero, members-suc}
+use Rattle.reader.proofs.PlaceLaws.{has, void, tells, backOf, frontOf, codeOf, back-none, front-none, back-some, front-some, any-at, back-at, front-at, back-both, front-both, back-same, front-same, back-value, front-value, member-back, void-back, with-front}
 use Rattle.reader.proofs.AppearLaws.{all-member, tells-alone, rising, InOrder, appears, void-last}
 use Rattle.reader.proofs.NumberingLaws.{numbered-cons, numbered-nil, Numberings, Going, pass}
 

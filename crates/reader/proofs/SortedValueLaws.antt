@@ -17,8 +17,7 @@ use Rattle.format.specs.Rows.{Row}
 use Rattle.format.specs.Structure.{rowBefore}
 use Rattle.reader.specs.Regions.{arrived, coded, spreadRegion}
 use Rattle.reader.specs.Numbering.{Renumbered, putAt, through}
-use Rattle.reader.proofs.SpreadLaws.{arrived-length, getD-front}
-use Rattle.reader.proofs.PlaceLaws.{codeOf}
+use Rattle.reader.proofs.PlaceLaws.{arrived-length, getD-front, codeOf}
 use Rattle.reader.proofs.RenumberLaws.{getD-zeros, blank-at}
 use Rattle.reader.proofs.OrderingLaws.{put-is, through-nil, through-cons, region-values}
 

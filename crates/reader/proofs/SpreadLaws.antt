@@ -8,7 +8,7 @@ use mathlib.Core.List.{List, [], _∷_, _++_, append-assoc, reverseAux}
 use native.Mathlib.Omega.{arith}
 use lib.ListN.{length, getD, set, length-set, length-append}
 use lib.IntN.{ℤ}
-use lib.Seq.{ext-getD, getD-set-same, getD-set-other, getD-take, take-append-seam, set-append-left, set-at, getD-at}
+use lib.Seq.{ext-getD, getD-set-same, getD-set-other, set-append-left, set-at, getD-at}
 use lib.Dec.{eqb}
 use borrow.Author.Tests.{eqb-true, eqb-false, ne-eqb}
 use Rattle.lists.specs.Lists.{isNil, all, any, pairs, filled}
@@ -20,46 +20,24 @@ use Rattle.format.specs.Bytes.{within, isIn}
 use Rattle.format.specs.Rows.{Row, row}
 use Rattle.format.specs.Structure.{most, meets, repeats, clash, overlap}
 use Rattle.format.proofs.ByteLaws.{within-true}
-use Rattle.reader.specs.Regions.{memberOf, membersFrom, coded, arrived, voidOf, spreadRegion}
+use Rattle.reader.specs.Regions.{memberOf, membersFrom, arrived, voidOf, spreadRegion}
 use Rattle.reader.specs.Members.{listOf, claims, claimed}
 use Rattle.reader.proofs.MemberLaws.{claims-nil, claims-free, claims-taken, void-free, void-taken}
-
--- whether a row has the atom, and whether it has none
-abbrev pub has : ℕ → Row → Bool
-has n r = isIn n (r .atoms)
-
-abbrev pub void : Row → Bool
-void r = isNil (r .atoms)
+use Rattle.reader.proofs.PlaceLaws.{has, void, getD-front, back-in, back-out, back-none, back-some, member-back, void-back, arrived-length}
 
 -- THE NUMBER OF AN ATOM'S ROW: 0 where none has it
 module _ (n : ℕ) where
-  pub member-nil : memberOf n [] ≡ 0
-  unfolding memberOf
-  member-nil = refl
-
   pub member-in : (r : Row) (rs : List Row) → has n r ≡ true → memberOf n (r ∷ rs) ≡ suc (length rs)
-  unfolding memberOf
-  member-in r rs e = rw (e, memberOf)
+  member-in r rs e = member-back n (r ∷ rs) ∙ back-in (has n) r rs e
 
   pub member-out : (r : Row) (rs : List Row) → has n r ≡ false → memberOf n (r ∷ rs) ≡ memberOf n rs
-  unfolding memberOf
-  member-out r rs e = rw (e, memberOf)
+  member-out r rs e = member-back n (r ∷ rs) ∙ back-out (has n) r rs e ∙ sym (member-back n rs)
 
   pub member-none : (rs : List Row) → any (has n) rs ≡ false → memberOf n rs ≡ 0
-  member-none [] h = member-nil
-  member-none (r ∷ rs) h = go (has n r) refl (member-none rs)
-    where
-      go : (t : Bool) → has n r ≡ t → (any (has n) rs ≡ false → memberOf n rs ≡ 0) → memberOf n (r ∷ rs) ≡ 0
-      go true e ih = torn (any (has n) (r ∷ rs)) (any-hit (has n) r rs e) h
-      go false e ih = member-out r rs e ∙ ih (sym (any-miss (has n) r rs e) ∙ h)
+  member-none rs h = member-back n rs ∙ back-none (has n) rs h
 
   pub member-some : (rs : List Row) → any (has n) rs ≡ true → memberOf n rs ≡ 0 → ⊥
-  member-some [] h z = torn (any (has n) []) h (any-nil (has n))
-  member-some (r ∷ rs) h z = go (has n r) refl (member-some rs)
-    where
-      go : (t : Bool) → has n r ≡ t → (any (has n) rs ≡ true → memberOf n rs ≡ 0 → ⊥) → ⊥
-      go true e ih = omega (arith, member-in r rs e, z)
-      go false e ih = ih (sym (any-miss (has n) r rs e) ∙ h) (sym (member-out r rs e) ∙ z)
+  member-some rs h z = omega (arith, back-some (has n) rs h .0, member-back n rs, z)
 
   -- it hangs on the members alone
   pub member-same : (r q : Row) (rs : List Row) → has n r ≡ has n q → memberOf n (r ∷ rs) ≡ memberOf n (q ∷ rs)
@@ -124,9 +102,6 @@ members-set k n i ps v rs h =
     each j g =
         let b : j < k = omega (arith, g, length-set (membersFrom k n old) i (suc (length rs)), members-length k n old) in
         here j b (eqb j i) refl ∙ sym (members-at k n new j b)
-
-pub getD-front : (xs ys : List ℕ) (i : ℕ) → i < length xs → getD (xs ++ ys) i 0 ≡ getD xs i 0
-getD-front xs ys i h = sym (getD-take (length xs) (xs ++ ys) i 0 h) ∙ ap (λ (l : List ℕ). getD l i 0) (take-append-seam xs ys)
 
 -- A ROW'S CLAIM: nothing where it clashes
 abbrev pub unless : Bool → List ℕ → Option (List ℕ)
@@ -243,42 +218,16 @@ meets-some s ns v rs e =
 
 -- THE ROW WITHOUT ATOMS
 pub void-in : (r : Row) (rs : List Row) → void r ≡ true → voidOf (r ∷ rs) ≡ suc (length rs)
-unfolding voidOf
-void-in r rs e = rw (e, voidOf)
+void-in r rs e = void-back (r ∷ rs) ∙ back-in void r rs e
 
 pub void-out : (r : Row) (rs : List Row) → void r ≡ false → voidOf (r ∷ rs) ≡ voidOf rs
-unfolding voidOf
-void-out r rs e = rw (e, voidOf)
-
-pub void-nil : voidOf [] ≡ 0
-unfolding voidOf
-void-nil = refl
+void-out r rs e = void-back (r ∷ rs) ∙ back-out void r rs e ∙ sym (void-back rs)
 
 pub void-none : (rs : List Row) → any void rs ≡ false → voidOf rs ≡ 0
-void-none [] h = void-nil
-void-none (r ∷ rs) h = go (void r) refl (void-none rs)
-  where
-    go : (t : Bool) → void r ≡ t → (any void rs ≡ false → voidOf rs ≡ 0) → voidOf (r ∷ rs) ≡ 0
-    go true e ih = torn (any void (r ∷ rs)) (any-hit void r rs e) h
-    go false e ih = void-out r rs e ∙ ih (sym (any-miss void r rs e) ∙ h)
+void-none rs h = void-back rs ∙ back-none void rs h
 
 pub void-some : (rs : List Row) → any void rs ≡ true → voidOf rs ≡ 0 → ⊥
-void-some [] h z = torn (any void []) h (any-nil void)
-void-some (r ∷ rs) h z = go (void r) refl (void-some rs)
-  where
-    go : (t : Bool) → void r ≡ t → (any void rs ≡ true → voidOf rs ≡ 0 → ⊥) → ⊥
-    go true e ih = omega (arith, void-in r rs e, z)
-    go false e ih = ih (sym (any-miss void r rs e) ∙ h) (sym (void-out r rs e) ∙ z)
-
--- THE VALUES, as the rows came
-pub arrived-length : (rs : List Row) → length (arrived rs) ≡ length rs
-unfolding arrived
-arrived-length [] = refl
-arrived-length (r ∷ rs) = length-append (arrived rs) (coded (r .value) ∷ []) ∙ omega (arith, arrived-length rs)
-
-pub arrived-more : (r : Row) (rs : List Row) → arrived (r ∷ rs) ≡ arrived rs ++ (coded (r .value) ∷ [])
-unfolding arrived
-arrived-more r rs = refl
+void-some rs h z = omega (arith, back-some void rs h .0, void-back rs, z)
 
 -- the region where a row's number is taken and its value is not yet there
 abbrev pub halfway : Row → List Row → List ℕ

@@ -35,8 +35,9 @@ use Rattle.reader.specs.declared.after.RowAfter.{RowAfter}
 use Rattle.reader.specs.declared.after.RowAfter.the-variants.{Kept, Stop}
 use Rattle.reader.specs.declared.spread.SpreadValue.{SpreadValue}
 use Rattle.reader.specs.declared.spread.SpreadValue.the-variants as S
+use Rattle.reader.proofs.PlaceLaws.{arrived-length, arrived-more}
 use Rattle.reader.proofs.MemberLaws.{claimed-some, number-member, number-is, wrong-is}
-use Rattle.reader.proofs.SpreadLaws.{clash-spread, most-spread, members-length, arrived-length, arrived-more, region-is, unless, halfway, claimed-void, claimed-members}
+use Rattle.reader.proofs.SpreadLaws.{clash-spread, most-spread, members-length, region-is, unless, halfway, claimed-void, claimed-members}
 
 -- HOW MANY ROWS: an answer that keeps rows keeps no more than the list holds
 pub stop-few : (n c : ℕ) → Stop n ≡ Kept c → c ≤ 64
