@@ -1,24 +1,27 @@
 -- The table put together from its regions, each lent in turn, and that it is the structure's: document 01, "The structure table". Assumes nothing.
-use Prim.Native.Nat.{ℕ, _+_, _*_, _≤_}
+use Prim.Native.Nat.{ℕ, zero, suc, _+_, _-_, _*_, _≤_, _<_}
 use mathlib.Core.Path.{_≡_, refl, sym, ap, _∙_}
+use mathlib.Core.Bool.{true, false}
 use mathlib.Core.List.{List, [], _∷_, _++_, map, append-assoc, append-nil}
 use native.Mathlib.Omega.{arith}
-use lib.ListN.{length, take, drop, length-append, drop-of-length-le}
+use lib.ListN.{length, getD, take, drop, replicate, length-append, length-map, drop-of-length-le, List·getD-append}
 use lib.IntN.{ℤ, pos}
 use lib.Seq.{take-at, drop-at, drop-drop}
 use borrow.Rule.Slice.PartMut.{putMid}
 use Rattle.lists.specs.Lists.{flat, filled}
-use Rattle.lists.proofs.PartLaws.{filled-length}
+use Rattle.lists.specs.Order.{sort}
+use Rattle.lists.proofs.PartLaws.{filled-is, filled-length}
 use Rattle.lists.proofs.SortLaws.{sort-length}
 use Rattle.format.specs.Bytes.{Bytes}
 use Rattle.format.specs.Labels.{ListOf, Bonds, Charges, Radicals, Centres, Pairs}
-use Rattle.format.specs.Rows.{Row}
+use Rattle.format.specs.Rows.{Row, row}
 use Rattle.format.specs.Structure.{Structure, rowsOf, lists, rowBefore}
 use Rattle.format.specs.Reading.{State, finished, spanOf}
 use Rattle.format.specs.Table.{atomCells, rowsPart, counts, spanCells, derived, encode}
-use Rattle.reader.specs.Regions.{kindsRegion, spreadRegion, Fits}
+use Rattle.reader.specs.Regions.{kindsRegion, coded}
 use Rattle.reader.specs.Progress.{proseAt, Counted, Bounded, Listed, Holding}
-use Rattle.reader.specs.Published.{bondOut, centreOut, pairOut, copied, valueOut, countsOut, headerOut, atomOut, gathered, atomsOut, spreadOut, markedOut, rowsOut, tableOut, Renumbers}
+use Rattle.reader.specs.Numbering.{Renumbered}
+use Rattle.reader.specs.Published.{bondOut, centreOut, pairOut, copied, valueOut, countsOut, headerOut, atomOut, gathered, atomsOut, spreadOut, markedOut, rowsOut, tableOut, Renumbers, Renumbering}
 use Rattle.reader.specs.declared.progress.Progress.{Progress}
 use Rattle.reader.proofs.FillLaws.{signed-small, copied-length}
 use Rattle.reader.proofs.AtomLaws.{gathered-length}
@@ -198,15 +201,29 @@ module _ (k : ℕ) (b : k ≤ 103) (block : Bytes) (size : ℕ) (p : Progress) (
       ∙ header-is block p s rest (counts-are p (st .body) (w .counted) (w .id) (h .listed))
       ∙ ap (λ x. map pos (counts s) ++ (flat spanCells (map spanOf x) ++ (derived s ++ rest))) (sym (h .texts))
 
--- what a renumbering of each list promises, whatever the rows
-abbrev pub Renumbering : (region : List ℕ) → (count : ℕ) → (order values : List ℕ) → Type 0
-Renumbering region count order values = (l : ListOf) (n : ℕ) (rs : List Row) → length rs ≡ count → Fits l n rs → region ≡ spreadRegion rs → Renumbers rs order values
+-- RENUMBERED: the order, then the values
+cell-map : {A : Type 0} (f : A → ℕ) (d : A) (xs : List A) (i : ℕ) → i < length xs → getD (map f xs) i 0 ≡ f (getD xs i d)
+cell-map f d [] i h = absurd (omega arith)
+cell-map f d (x ∷ xs) zero h = refl
+cell-map f d (x ∷ xs) (suc i) h = cell-map f d xs i (omega arith)
 
-pub publishes : (table table′ : List ℤ) (block : Bytes) (size : ℕ) (p : Progress) (t co cs ro rs : List ℕ) → Bounded size p → Renumbering (take 321 (drop 768 t)) (p .charges) co cs
-    → Renumbering (take 321 (drop 1089 t)) (p .radicals) ro rs → table′ ≡ tableOut block p t co cs ro rs ++ drop 3856 table → (k : ℕ) (st : State) → Holding k block p t st → k ≤ 103
-    → table′ ≡ encode (finished (st .body)) (map spanOf (st .texts)) ++ drop 3856 table
+pub renumbers : (rs : List Row) (order values : List ℕ) → Renumbered rs order → values ≡ filled 0 64 (map (λ r. coded (r .value)) (sort rowBefore rs)) → Renumbers rs order values
+renumbers rs order values f e = record {
+  number = λ n l h. f .members n;
+  value = λ i h.
+      let ss : List Row = sort rowBefore rs in
+      let vs : List ℕ = map (λ r. coded (r .value)) ss in
+      let k : i < length ss = omega (arith, sort-length rowBefore rs) in
+      ap (λ t. getD t i 0) (e ∙ filled-is 0 64 vs) ∙ List·getD-append vs (replicate (64 - length vs) 0) 0 i (omega (arith, length-map ss (λ r. coded (r .value))))
+      ∙ cell-map (λ r. coded (r .value)) (row [] (pos 0) 0) ss i k;
+}
+
+pub publishes : (table table′ : List ℤ) (block : Bytes) (size : ℕ) (p : Progress) (t co₀ cs₀ ro₀ rs₀ co cs ro rs : List ℕ) → Bounded size p → co₀ ≡ filled 0 65 [] → cs₀ ≡ filled 0 64 []
+    → ro₀ ≡ filled 0 65 [] → rs₀ ≡ filled 0 64 [] → Renumbering (take 321 (drop 768 t)) (p .atoms) (p .charges) co₀ cs₀ co cs
+    → Renumbering (take 321 (drop 1089 t)) (p .atoms) (p .radicals) ro₀ rs₀ ro rs → table′ ≡ tableOut block p t co cs ro rs ++ drop 3856 table → (k : ℕ) (st : State) → Holding k block p t st
+    → k ≤ 103 → table′ ≡ encode (finished (st .body)) (map spanOf (st .texts)) ++ drop 3856 table
 unfolding rowsOf
-publishes table table′ block size p t co cs ro rs w f g e k st h b =
+publishes table table′ block size p t co₀ cs₀ ro₀ rs₀ co cs ro rs w x y u v f g e k st h b =
     e ∙ ap (λ l. l ++ drop 3856 table)
-    (published k b block size p t st w h co cs ro rs (f Charges (p .atoms) (st .body .charges) (h .listed .counts Charges) (h .listed .fits Charges) (at-list k b block size p t st w h Charges))
-    (g Radicals (p .atoms) (st .body .radicals) (h .listed .counts Radicals) (h .listed .fits Radicals) (at-list k b block size p t st w h Radicals)))
+    (published k b block size p t st w h co cs ro rs (f true (st .body .charges) (h .listed .counts Charges) (h .listed .fits Charges) (at-list k b block size p t st w h Charges) x y)
+    (g false (st .body .radicals) (h .listed .counts Radicals) (h .listed .fits Radicals) (at-list k b block size p t st w h Radicals) u v))

@@ -2,7 +2,7 @@
 use Prim.Native.Nat.{ℕ, zero, suc, _+_, _-_, _*_, _/_, _%_, _≤_, _<_}
 use mathlib.Core.Path.{_≡_}
 use mathlib.Core.List.{List, [], _∷_, _++_}
-use mathlib.Core.Bool.{true, false}
+use mathlib.Core.Bool.{Bool, true, false}
 use lib.ListN.{length, getD, take, drop}
 use lib.IntN.{ℤ, pos, negℤ}
 use lib.Dec.{ltb}
@@ -14,7 +14,8 @@ use Rattle.format.specs.Rows.{Row, row}
 use Rattle.format.specs.Structure.{rowBefore}
 use Rattle.format.specs.Reading.{spanOf}
 use Rattle.format.specs.Table.{spanCells, rowWith}
-use Rattle.reader.specs.Regions.{memberOf, coded}
+use Rattle.reader.specs.Regions.{memberOf, coded, spreadRegion, Fits}
+use Rattle.reader.specs.Members.{listOf}
 use Rattle.reader.specs.Progress.{proseAt}
 use Rattle.reader.specs.declared.progress.Progress.{Progress}
 
@@ -96,3 +97,8 @@ tableOut block p t co cs ro rs = headerOut block p ++ (atomsOut (take 768 t) (ta
 pub record Renumbers (rs : List Row) (order values : List ℕ) : Type 0 where
   pub number : (n : ℕ) → 1 ≤ n → n ≤ 256 → getD order (memberOf n rs) 0 ≡ rowWith 1 n (sort rowBefore rs)
   pub value : (i : ℕ) → i < length rs → getD values i 0 ≡ coded (getD (sort rowBefore rs) i (row [] (pos 0) 0) .value)
+
+-- what a renumbering promises of the rows that a region shows, `order` and `values` all zeros before it
+abbrev pub Renumbering : (region : List ℕ) → (atoms rows : ℕ) → (order₀ values₀ order values : List ℕ) → Type 0
+Renumbering region atoms n order₀ values₀ order values =
+    (s : Bool) (rs : List Row) → length rs ≡ n → Fits (listOf s) atoms rs → region ≡ spreadRegion rs → order₀ ≡ filled 0 65 [] → values₀ ≡ filled 0 64 [] → Renumbers rs order values

@@ -1,13 +1,16 @@
 // An accepted block's structure in the lent table: document 01, "The structure table" ("3,856 signed 32-bit numbers; unused ones are 0"). Every one of the 3,856
 // numbers is put there, whatever stood there before; those beyond stay.
 ghost use mathlib.Core.Path.{_≡_};
-ghost use mathlib.Core.List.{_++_};
-ghost use Prim.Native.Nat.{_≤_};
+ghost use mathlib.Core.List.{_++_, map};
+ghost use Prim.Native.Nat.{ℕ, _≤_};
 ghost use lib.ListN.{length, drop};
-ghost use Rattle.reader.specs.Progress.{Counted, Bounded};
-ghost use Rattle.reader.specs.Published.{spreadOut, markedOut, rowsOut, tableOut};
+ghost use Rattle.format.specs.Reading.{State, finished, spanOf};
+ghost use Rattle.format.specs.Table.{encode};
+ghost use Rattle.reader.specs.Progress.{Counted, Bounded, Holding};
+ghost use Rattle.reader.specs.Published.{spreadOut, markedOut, rowsOut, tableOut, Renumbering};
 use crate::fill;
 use crate::header;
+use crate::numbering;
 use crate::progress::Progress;
 use crate::records;
 use format::Table;
@@ -70,5 +73,49 @@ fn fill_table(
         scratch,
         charges,
         radicals,
+    );
+}
+
+// The numbers and values of charge or radical rows in their sorted order, for tables of zeros.
+fn renumber(region: &[u32], atoms: usize, rows: usize, order: &mut [u32], values: &mut [u32])
+    requires { ⌜ (length (now region) ≡ 321) × (atoms ≤ 256) × (rows ≤ 64) × (length (now order) ≡ 65) × (length (now values) ≡ 64) ⌝ }
+    ensures { λ _. ⌜ Renumbering (now (region .entry)) atoms rows (now (order .entry)) (now (values .entry)) (now (order .exit)) (now (values .exit)) ⌝ }
+{
+    numbering::order_of(region, atoms, rows, order);
+    numbering::sorted_values(region, order, rows, values);
+}
+
+// The structure that progress and scratch hold.
+pub fn publish(block: &[u8], p: Progress, scratch: &[u32], table: &mut [i32])
+    requires { ⌜ (3856 ≤ length (now table)) × (length (now scratch) ≡ 2960) × Bounded (length (now block)) p × (length (now block) ≤ 32768) ⌝ }
+    ensures { λ _. ⌜ ((k : ℕ) (st : State) → Holding k (now (block .entry)) p (now (scratch .entry)) st → k ≤ 103 → now (table .exit) ≡ encode (finished (st .body)) (map spanOf (st .texts)) ++ drop 3856 (now (table .entry))) ⌝ }
+{
+    let mut charge_order = [0u32; 65];
+    let mut charges = [0u32; 64];
+    renumber(
+        &scratch[768..1089],
+        p.atoms,
+        p.charges,
+        &mut charge_order,
+        &mut charges,
+    );
+    let mut radical_order = [0u32; 65];
+    let mut radicals = [0u32; 64];
+    renumber(
+        &scratch[1089..1410],
+        p.atoms,
+        p.radicals,
+        &mut radical_order,
+        &mut radicals,
+    );
+    fill_table(
+        table,
+        block,
+        p,
+        scratch,
+        &charge_order,
+        &charges,
+        &radical_order,
+        &radicals,
     );
 }
