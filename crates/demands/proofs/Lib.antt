@@ -14,4 +14,5 @@ pub mod WayBack
 pub mod WayBackTables
 pub mod WayBackForm
 pub mod WayBackWalk
+pub mod WayBackMembers
 pub mod Demands
