@@ -15,4 +15,6 @@ pub mod WayBackTables
 pub mod WayBackForm
 pub mod WayBackWalk
 pub mod WayBackMembers
+pub mod WayBackDecoded
+pub mod WayBackSound
 pub mod Demands

@@ -11,7 +11,7 @@ use Rattle.format.specs.Bytes.{Bytes, cut}
 use Rattle.format.specs.Labels.{titleLine, endLine}
 use Rattle.format.specs.Structure.{Structure}
 use Rattle.format.specs.Reading.{Span, Read, strict, readBlock}
-use Rattle.format.specs.Table.{encode, decode, spansOf, textAt, textOk, readAnswer, readResult}
+use Rattle.format.specs.Table.{encode, decode, spansOf, textAt, textOk, sound, readAnswer, readResult}
 use Rattle.format.specs.Writing.{canonical, WriteResult, formOf, writeResult}
 
 -- the form of a structure and its texts is read as that structure, and where its three texts stand stand those texts, each as a sound table has it
@@ -42,6 +42,13 @@ pub record TableBack (k : ℕ) (t : List ℤ) (b buffer : Bytes) (into : List �
   pub reads : readResult k (formOf t b) into ≡ readAnswer 0 0 (encode (decode t) (title ∷ origin ∷ owner ∷ []) ++ drop 3856 into)
   pub same-numbers : withoutTexts (encode (decode t) (title ∷ origin ∷ owner ∷ [])) ≡ withoutTexts (take 3856 t)
   pub same-texts : map (textAt (formOf t b)) (title ∷ origin ∷ owner ∷ []) ≡ map (textAt b) (spansOf t)
+
+-- a form is accepted, the table that it is read into is sound with it, and that table's form is the form again
+pub record WrittenAgain (k : ℕ) (form : Bytes) (into : List ℤ) : Type 0 where
+  pub table : List ℤ
+  pub reads : readResult k form into ≡ readAnswer 0 0 table
+  pub sound-again : sound k table form ≡ true
+  pub same-form : formOf table form ≡ form
 
 -- the lines of a form: the first is a TITLE line and no other is, the last is an END line and no other is
 pub record OneBlock (form : Bytes) : Type 0 where
