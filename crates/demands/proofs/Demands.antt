@@ -72,7 +72,7 @@ pub table-back : (k : ℕ) (t : List ℤ) (b buffer : Bytes) (into : List ℤ) �
     3856 ≤ length into → TableBack k t b buffer into
 table-back = tables.table-back
 
--- a form is written again from its own reading: the table that it is read into is sound, and that table's form is the form, byte for byte
+-- a form is written again from its own reading: the table that it is read into is sound, and written into any buffer with room it is the form, byte for byte
 pub written-again : (k : ℕ) (s : Structure) (title origin owner : Bytes) → k ≤ 103 → wellFormed k s ≡ true → all textFine (title ∷ origin ∷ owner ∷ []) ≡ true →
     length (canonical s (title ∷ origin ∷ owner ∷ [])) ≤ 32768 → (into : List ℤ) → 3856 ≤ length into → WrittenAgain k (canonical s (title ∷ origin ∷ owner ∷ [])) into
 written-again = again.written-again

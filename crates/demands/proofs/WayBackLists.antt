@@ -76,14 +76,14 @@ module _ (u : Rules) (first : State) (block : Bytes) (texts : List Prose) (f : L
     pub body-is : last .body ≡ s
 
   pub end-stage : (s : Structure) → Stage u first block texts f s (endLabel ∷ []) ((bytes "##END=" ++ valued []) ++ []) → 0 < length (s .atoms) → agree f (entriesOf (s .atoms)) ≡ true → AcceptedAs s
-  end-stage s g some′ agrees =
+  end-stage s g filled agrees =
       let c : (free (g .seen) endLabel ≡ true) × (all (free (g .seen)) [] ≡ true) = all-parts (free (g .seen)) endLabel [] (g .clear) in
       let last : State = stateOf (g .at + length (bytes "##END=" ++ valued [])) (endLabel ∷ g .seen) End texts f s in
       record {
         last = last;
         reads =
             g .reads
-            ∙ end-through u (g .at) (g .seen) (g .running) f s (g .begun) (g .runs) texts (not-true (misplaced (g .seen) endLabel) (c .0)) (had-more endLabel (g .seen) (2 ∷ 3 ∷ 4 ∷ 5 ∷ []) (g .had)) some′ agrees []
+            ∙ end-through u (g .at) (g .seen) (g .running) f s (g .begun) (g .runs) texts (not-true (misplaced (g .seen) endLabel) (c .0)) (had-more endLabel (g .seen) (2 ∷ 3 ∷ 4 ∷ 5 ∷ []) (g .had)) filled agrees []
             ∙ ap (readLines u last) cut-nil ∙ read-end u last;
         texts-are = refl;
         body-is = refl;

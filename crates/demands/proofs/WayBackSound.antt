@@ -1,7 +1,7 @@
 -- The table of a well-formed structure holds that structure, and with texts that are fine it is sound, so that it is written; and a form is written again from its
 -- own reading, byte for byte. Serves document 01, demand 2. Assumes nothing.
 use Prim.Native.Nat.{ℕ, _+_, _*_, _≤_, min}
-use mathlib.Core.Path.{_≡_, refl, sym, ap, _∙_}
+use mathlib.Core.Path.{_≡_, refl, sym, ap, _∙_, subst}
 use mathlib.Core.Bool.{true, _&&_}
 use mathlib.Core.List.{List, [], _∷_, _++_, map, append-assoc, append-nil}
 use native.Mathlib.Omega.{arith}
@@ -19,13 +19,14 @@ use Rattle.format.specs.Labels.{ListOf, Bonds, Charges, Radicals, Centres, Pair
 use Rattle.format.specs.Structure.{Structure, rowsOf, lists, most, meets, groupOk, rowOk, wellFormed}
 use Rattle.format.specs.Reading.{Span}
 use Rattle.format.specs.Table.{width, atomCells, rowCells, rowsPart, counts, derived, encode, cell, countAt, atomAt, markedAt, bondAt, spreadAt, atomRecords, decode, spansOf, sameNumber, soundNumbers, textFine, textAt, textOk, sound, tableOf}
-use Rattle.format.specs.Writing.{canonical, formOf}
+use Rattle.format.specs.Writing.{canonical, formOf, writeResult}
 use Rattle.demands.specs.WayBack.{ReadBack, WrittenAgain}
 use Rattle.demands.proofs.WayBackLists.{lists-flat}
 use Rattle.demands.proofs.WayBack.{Fine, fine-structure, way-back}
 use Rattle.demands.proofs.WayBackMembers.{spread-rows}
 use Rattle.demands.proofs.WayBackDecoded.{row-wide, bond-back, centre-back, pair-back, part-long, spread-fine, recordsOf, records-taken, records-atoms, records-long, charge-marks, radical-marks, cells-long, values-charges, values-radicals, values-taken, no-group}
 use Rattle.demands.proofs.Refused.{long-read}
+use Rattle.demands.proofs.WayBackTables.{form-written}
 
 -- a structure from its seven parts
 decoded-by : (t : List ℤ) (s : Structure) → map atomAt (atomRecords t) ≡ s .atoms → rowsFrom 3 bondAt (countAt t 1 512) (drop 1296 t) ≡ s .bonds →
@@ -204,14 +205,20 @@ module _ (k : ℕ) (s : Structure) (ok : Fine k s) (a b c : Span) (beyond : List
 -- A FORM WRITTEN AGAIN FROM ITS OWN READING: it is accepted, the table that it is read into is sound, and that table's form is the form again
 pub written-again : (k : ℕ) (s : Structure) (t0 t1 t2 : Bytes) → k ≤ 103 → wellFormed k s ≡ true → all textFine (t0 ∷ t1 ∷ t2 ∷ []) ≡ true →
     length (canonical s (t0 ∷ t1 ∷ t2 ∷ [])) ≤ 32768 → (into : List ℤ) → 3856 ≤ length into → WrittenAgain k (canonical s (t0 ∷ t1 ∷ t2 ∷ [])) into
-written-again k s t0 t1 t2 most′ ok fine fits into wide =
+written-again k s t0 t1 t2 most-is ok fine fits into wide =
     let form : Bytes = canonical s (t0 ∷ t1 ∷ t2 ∷ []) in
-    let R : ReadBack k s (t0 ∷ t1 ∷ t2 ∷ []) = way-back k s t0 t1 t2 most′ ok fine fits in
+    let R : ReadBack k s (t0 ∷ t1 ∷ t2 ∷ []) = way-back k s t0 t1 t2 most-is ok fine fits in
     let F : Fine k s = fine-structure k s ok in
     let z : List ℤ = drop 3856 into in
+    let t : List ℤ = encode s (R .title ∷ R .origin ∷ R .owner ∷ []) ++ z in
+    let sound-is : sound k t form ≡ true = encoded-sound k s F (R .title) (R .origin) (R .owner) z ok form (R .sound-texts) in
+    let same : formOf t form ≡ form = form-of k s F (R .title) (R .origin) (R .owner) z form ∙ ap (canonical s) (R .same-texts) in
     record {
-      table = encode s (R .title ∷ R .origin ∷ R .owner ∷ []) ++ z;
+      table = t;
       reads = long-read k form into wide ∙ ap (tableOf z) (R .reads);
-      sound-again = encoded-sound k s F (R .title) (R .origin) (R .owner) z ok form (R .sound-texts);
-      same-form = form-of k s F (R .title) (R .origin) (R .owner) z form ∙ ap (canonical s) (R .same-texts);
+      sound-again = sound-is;
+      same-form = same;
+      writes = λ buffer room.
+          subst (λ (f : Bytes). writeResult k t form buffer ≡ record { number = 0; count = length f; buffer = f ++ drop (length f) buffer }) same
+          (form-written k t form buffer (table-long k s F (R .title) (R .origin) (R .owner) z) sound-is (omega (arith, ap length same)) (omega (arith, ap length same)));
     }
