@@ -18,12 +18,13 @@ use Rattle.demands.specs.Starred.{starred}
 use Rattle.demands.specs.Neighbours.{neighbours}
 use Rattle.demands.specs.Examples.{formicInput, formicWritten, formicTable, neon, wrongNeon}
 use Rattle.demands.specs.Stretches.{closing, opening, moved, _then_, Chain, steps}
-use Rattle.demands.specs.WayBack.{ReadBack, TableBack, OneBlock}
+use Rattle.demands.specs.WayBack.{ReadBack, TableBack, WrittenAgain, OneBlock}
 use Rattle.demands.proofs.Worked as worked
 use Rattle.demands.proofs.Refused as refused
 use Rattle.demands.proofs.Stretches as stretches
 use Rattle.demands.proofs.WayBack as back
 use Rattle.demands.proofs.WayBackTables as tables
+use Rattle.demands.proofs.WayBackSound as again
 use Rattle.demands.proofs.WayBackWalk as walk
 
 -- DEMAND 1
@@ -70,6 +71,11 @@ way-back = back.way-back
 pub table-back : (k : ℕ) (t : List ℤ) (b buffer : Bytes) (into : List ℤ) → k ≤ 103 → 3856 ≤ length t → sound k t b ≡ true → length (formOf t b) ≤ 32768 → length (formOf t b) ≤ length buffer →
     3856 ≤ length into → TableBack k t b buffer into
 table-back = tables.table-back
+
+-- a form is written again from its own reading: the table that it is read into is sound, and written into any buffer with room it is the form, byte for byte
+pub written-again : (k : ℕ) (s : Structure) (title origin owner : Bytes) → k ≤ 103 → wellFormed k s ≡ true → all textFine (title ∷ origin ∷ owner ∷ []) ≡ true →
+    length (canonical s (title ∷ origin ∷ owner ∷ [])) ≤ 32768 → (into : List ℤ) → 3856 ≤ length into → WrittenAgain k (canonical s (title ∷ origin ∷ owner ∷ [])) into
+written-again = again.written-again
 
 -- only a form's first line is a TITLE line and only its last an END line; in a file by itself it is one block
 pub canonical-lines : (k : ℕ) (s : Structure) (title origin owner : Bytes) → k ≤ 103 → wellFormed k s ≡ true → all textFine (title ∷ origin ∷ owner ∷ []) ≡ true →

@@ -14,4 +14,7 @@ pub mod WayBack
 pub mod WayBackTables
 pub mod WayBackForm
 pub mod WayBackWalk
+pub mod WayBackMembers
+pub mod WayBackDecoded
+pub mod WayBackSound
 pub mod Demands

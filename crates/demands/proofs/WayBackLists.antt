@@ -76,14 +76,14 @@ module _ (u : Rules) (first : State) (block : Bytes) (texts : List Prose) (f : L
     pub body-is : last .body ≡ s
 
   pub end-stage : (s : Structure) → Stage u first block texts f s (endLabel ∷ []) ((bytes "##END=" ++ valued []) ++ []) → 0 < length (s .atoms) → agree f (entriesOf (s .atoms)) ≡ true → AcceptedAs s
-  end-stage s g some′ agrees =
+  end-stage s g filled agrees =
       let c : (free (g .seen) endLabel ≡ true) × (all (free (g .seen)) [] ≡ true) = all-parts (free (g .seen)) endLabel [] (g .clear) in
       let last : State = stateOf (g .at + length (bytes "##END=" ++ valued [])) (endLabel ∷ g .seen) End texts f s in
       record {
         last = last;
         reads =
             g .reads
-            ∙ end-through u (g .at) (g .seen) (g .running) f s (g .begun) (g .runs) texts (not-true (misplaced (g .seen) endLabel) (c .0)) (had-more endLabel (g .seen) (2 ∷ 3 ∷ 4 ∷ 5 ∷ []) (g .had)) some′ agrees []
+            ∙ end-through u (g .at) (g .seen) (g .running) f s (g .begun) (g .runs) texts (not-true (misplaced (g .seen) endLabel) (c .0)) (had-more endLabel (g .seen) (2 ∷ 3 ∷ 4 ∷ 5 ∷ []) (g .had)) filled agrees []
             ∙ ap (readLines u last) cut-nil ∙ read-end u last;
         texts-are = refl;
         body-is = refl;
@@ -100,18 +100,16 @@ turned s = record { atoms = s .atoms; bonds = reverse (s .bonds); charges = reve
 abbrev pub listLabels : List Label
 listLabels = labelOf Bonds ∷ labelOf Charges ∷ labelOf Radicals ∷ labelOf Centres ∷ labelOf Pairs ∷ endLabel ∷ []
 
--- the printed lists one by one
-lists-are : (s : Structure) (left : Bytes) → flat (λ l. printRows l (rowsOf l s)) lists ++ left
-    ≡ printRows Bonds (s .bonds) ++ (printRows Charges (s .charges) ++ (printRows Radicals (s .radicals) ++ (printRows Centres (s .centres) ++ (printRows Pairs (s .pairs) ++ left))))
-unfolding lists rowsOf
-lists-are s left =
-    let p : ListOf → Bytes = λ l. printRows l (rowsOf l s) in
+-- what each list gives, one by one
+pub lists-flat : {A : Type 0} (p : ListOf → List A) (left : List A) → flat p lists ++ left ≡ p Bonds ++ (p Charges ++ (p Radicals ++ (p Centres ++ (p Pairs ++ left))))
+unfolding lists
+lists-flat {A = A} p left =
     flat-behind p Bonds (Charges ∷ Radicals ∷ Centres ∷ Pairs ∷ []) left
-    ∙ ap (λ (r : Bytes). p Bonds ++ r) (flat-behind p Charges (Radicals ∷ Centres ∷ Pairs ∷ []) left
-    ∙ ap (λ (r : Bytes). p Charges ++ r) (flat-behind p Radicals (Centres ∷ Pairs ∷ []) left
-    ∙ ap (λ (r : Bytes). p Radicals ++ r) (flat-behind p Centres (Pairs ∷ []) left
-    ∙ ap (λ (r : Bytes). p Centres ++ r) (flat-behind p Pairs [] left
-    ∙ ap (λ (r : Bytes). p Pairs ++ (r ++ left)) (flat-nil p)))))
+    ∙ ap (λ (r : List A). p Bonds ++ r) (flat-behind p Charges (Radicals ∷ Centres ∷ Pairs ∷ []) left
+    ∙ ap (λ (r : List A). p Charges ++ r) (flat-behind p Radicals (Centres ∷ Pairs ∷ []) left
+    ∙ ap (λ (r : List A). p Radicals ++ r) (flat-behind p Centres (Pairs ∷ []) left
+    ∙ ap (λ (r : List A). p Centres ++ r) (flat-behind p Pairs [] left
+    ∙ ap (λ (r : List A). p Pairs ++ (r ++ left)) (flat-nil p)))))
 
 module _ (u : Rules) (first : State) (block : Bytes) (texts : List Prose) (f : List Entry) (s : Structure) (small : length (s .atoms) < 1000000)
     (ok : (l : ListOf) → FineRows l (length (s .atoms)) (rowsOf l s)) where
@@ -121,7 +119,7 @@ module _ (u : Rules) (first : State) (block : Bytes) (texts : List Prose) (f : L
       let n : ℕ = length (s .atoms) in
       let step = list-stage u first block texts f in
       let g0 : Stage u first block texts f (bareOf (s .atoms) (s .id)) listLabels (printRows Bonds (s .bonds) ++ (printRows Charges (s .charges) ++ (printRows Radicals (s .radicals) ++ (printRows Centres (s .centres) ++ (printRows Pairs (s .pairs) ++ left))))) =
-      rw (lists-are s left) at g in
+      rw (lists-flat (λ l. printRows l (rowsOf l s)) left) at g in
       let g1 = step Bonds (s .bonds) _ n _ _ g0 refl small refl refl (ok Bonds) in
       let g2 = step Charges (s .charges) _ n _ _ g1 refl small refl refl (ok Charges) in
       let g3 = step Radicals (s .radicals) _ n _ _ g2 refl small refl refl (ok Radicals) in

@@ -1,7 +1,7 @@
 -- A form in a transfer file: the written form of a well-formed structure and of three fine texts is one block by itself. Serves document 01, demand 3 over demand
 -- 2's tables. Assumes nothing.
 use Prim.Native.Nat.{ℕ, _+_, _≤_}
-use mathlib.Core.Path.{_≡_, refl, sym, ap, _∙_}
+use mathlib.Core.Path.{_≡_, ap, _∙_}
 use mathlib.Core.Bool.{true, false}
 use mathlib.Core.List.{List, [], _∷_, _++_}
 use native.Mathlib.Omega.{arith}
@@ -9,15 +9,14 @@ use lib.ListN.{length}
 use Rattle.lists.specs.Lists.{all, any, concat}
 use Rattle.lists.proofs.ListLaws.{any-parts}
 use Rattle.lists.proofs.PartLaws.{concat-nil, concat-length}
-use Rattle.format.specs.Bytes.{Bytes, cut}
+use Rattle.format.specs.Bytes.{Bytes}
 use Rattle.format.specs.Labels.{titleLine, endLine}
 use Rattle.format.specs.Structure.{Structure, wellFormed}
 use Rattle.format.specs.Reading.{strict}
 use Rattle.format.specs.Table.{textFine}
-use Rattle.format.specs.Walking.{block, Piece, piece, Mode, outside, inBlock, ended, next, run, pieces}
+use Rattle.format.specs.Walking.{block, piece, outside, inBlock, run, pieces}
 use Rattle.format.specs.Writing.{canonical}
 use Rattle.format.proofs.CutLaws.{concat-cut}
-use Rattle.format.proofs.WalkLaws.{run-cons, run-none}
 use Rattle.demands.specs.WayBack.{ReadBack, OneBlock}
 use Rattle.demands.proofs.WayBack.{way-back}
 use Rattle.demands.proofs.WayBackForm.{form-lines}

@@ -1,17 +1,17 @@
 -- What the way back of demand 2 speaks of, document 01: a written form read again gives the structure that it was written from, and texts of the same content.
 -- Assumes nothing.
-use Prim.Native.Nat.{ℕ}
+use Prim.Native.Nat.{ℕ, _≤_}
 use mathlib.Core.Path.{_≡_}
 use mathlib.Core.Bool.{true, false}
 use mathlib.Core.List.{List, [], _∷_, _++_, map}
-use lib.ListN.{take, drop}
+use lib.ListN.{length, take, drop}
 use lib.IntN.{ℤ}
 use Rattle.lists.specs.Lists.{all, any}
 use Rattle.format.specs.Bytes.{Bytes, cut}
 use Rattle.format.specs.Labels.{titleLine, endLine}
 use Rattle.format.specs.Structure.{Structure}
 use Rattle.format.specs.Reading.{Span, Read, strict, readBlock}
-use Rattle.format.specs.Table.{encode, decode, spansOf, textAt, textOk, readAnswer, readResult}
+use Rattle.format.specs.Table.{encode, decode, spansOf, textAt, textOk, sound, readAnswer, readResult}
 use Rattle.format.specs.Writing.{canonical, WriteResult, formOf, writeResult}
 
 -- the form of a structure and its texts is read as that structure, and where its three texts stand stand those texts, each as a sound table has it
@@ -42,6 +42,14 @@ pub record TableBack (k : ℕ) (t : List ℤ) (b buffer : Bytes) (into : List �
   pub reads : readResult k (formOf t b) into ≡ readAnswer 0 0 (encode (decode t) (title ∷ origin ∷ owner ∷ []) ++ drop 3856 into)
   pub same-numbers : withoutTexts (encode (decode t) (title ∷ origin ∷ owner ∷ [])) ≡ withoutTexts (take 3856 t)
   pub same-texts : map (textAt (formOf t b)) (title ∷ origin ∷ owner ∷ []) ≡ map (textAt b) (spansOf t)
+
+-- a form is accepted, the table that it is read into is sound with it, and written again into any buffer with room it is the form, byte for byte
+pub record WrittenAgain (k : ℕ) (form : Bytes) (into : List ℤ) : Type 0 where
+  pub table : List ℤ
+  pub reads : readResult k form into ≡ readAnswer 0 0 table
+  pub sound-again : sound k table form ≡ true
+  pub same-form : formOf table form ≡ form
+  pub writes : (buffer : Bytes) → length form ≤ length buffer → writeResult k table form buffer ≡ record { number = 0; count = length form; buffer = form ++ drop (length form) buffer }
 
 -- the lines of a form: the first is a TITLE line and no other is, the last is an END line and no other is
 pub record OneBlock (form : Bytes) : Type 0 where
