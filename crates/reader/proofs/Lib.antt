@@ -27,3 +27,4 @@ pub mod AtomLaws
 pub mod KindLaws
 pub mod AtomPartLaws
 pub mod KeyedLines
+pub mod AtomLineLaws
