@@ -36,3 +36,4 @@ pub mod NumberingLaws
 pub mod RenumberLaws
 pub mod OrderingLaws
 pub mod SortedValueLaws
+pub mod AtomLineLaws

@@ -15,7 +15,7 @@ use rows::centre::CentreRow;
 use rows::pair::PairRow;
 
 // Whether the line has no field: "lines then blank are skipped".
-fn is_bare(line: &[u8]) -> bool
+pub fn is_bare(line: &[u8]) -> bool
     ensures { λ r. ⌜ r ≡ isNil (fields (now (line .entry))) ⌝ }
 {
     let first = scan::fields::next_field(line, 0);

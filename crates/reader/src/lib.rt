@@ -12,3 +12,4 @@ mod totals; // totals.rt: the formula against the atoms
 mod spread; // spread.rt: CHARGE and RADICAL
 mod numbering; // numbering.rt: charge and radical rows in order
 mod keyed; // keyed.rt: lines of bonds, centres and pairs
+mod atoms; // atoms.rt: lines of ATOMLIST
