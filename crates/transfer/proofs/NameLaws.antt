@@ -1,27 +1,27 @@
 -- The name to show, as the code comes to it: document 01, "The name to show is a part of the block, its title, or the caller's stand-in bytes where the title is
 -- empty or the first line is no TITLE line." Assumes nothing.
 use Prim.Native.Nat.{ℕ, _+_, _-_, _≤_, _<_}
-use mathlib.Core.Path.{_≡_, refl, sym, ap, _∙_}
+use mathlib.Core.Path.{_≡_, refl, sym, ap, ap₂, _∙_}
 use mathlib.Core.Bool.{Bool, true, false}
 use mathlib.Core.List.{List, [], _∷_, _++_}
 use native.Mathlib.Omega.{arith}
 use lib.ListN.{length, take, drop, length-append, length-drop, take-append-drop, drop-of-length-le}
 use lib.Dec.{ltb}
-use lib.Seq.{take-nil, length-take-le, drop-append-le}
+use lib.Seq.{take-nil, length-take-le, drop-append-le, drop-drop}
 use borrow.Author.Tests.{ltb-true, ltb-false}
 use Rattle.lists.specs.Lists.{concat}
 use Rattle.lists.proofs.Bools.{torn}
-use Rattle.lists.proofs.PartLaws.{concat-cons, concat-length, take-past}
-use Rattle.format.specs.Bytes.{Bytes, trim, isLabel, cut, lineLen}
+use Rattle.lists.proofs.PartLaws.{concat-cons, concat-length, take-past, slice-before}
+use Rattle.format.specs.Bytes.{Bytes, trim, lead, isLabel, cut, lineLen}
 use Rattle.format.specs.Labels.{lineOf, titleLine}
-use Rattle.format.specs.Walking.{untilLabel, valueOf, titleBy, orElse, nameOf}
+use Rattle.format.specs.Walking.{untilLabel, valueOf, titleOf, orElse, nameOf}
 use Rattle.format.proofs.CutLaws.{cut-nil, cut-at, concat-cut, lineLen-le}
 use Rattle.format.proofs.WalkLaws.{plain-no-title}
 use Rattle.scan.specs.declared.fields.Field.{Field}
 use Rattle.scan.specs.NextFields.{fieldIn}
 use Rattle.scan.specs.Trims.{Trimmed}
 use Rattle.transfer.specs.Skipping.{skipped}
-use Rattle.transfer.specs.Texts.{textTo, TextEnd, ValueAt}
+use Rattle.transfer.specs.Texts.{textTo, TextEnd, ValueAt, Titled}
 use Rattle.transfer.proofs.SkipLaws.{skip-on}
 
 -- WHERE A TEXT ENDS: at the first label line
@@ -114,27 +114,22 @@ slice-join b from e to h k l =
     ∙ take-past (to - from) (drop from (take e b)) (drop e b) (omega arith)
     ∙ ap (λ (i : ℕ). drop from (take e b) ++ take i (drop e b)) r
 
-pub or-some : (t w : Bytes) → 0 < length t → orElse t w ≡ t
-or-some [] w h = absurd (omega arith)
-or-some (x ∷ t) w h = refl
+-- THE TITLE
+abbrev part : (from to : ℕ) → Field
+part a b = record { from = a; to = b }
 
--- THE NAME
-module _ (b w : Bytes) (e : ℕ) (q : e ≡ 0 + lineLen (drop 0 b)) where
-  name-of : (l : Bytes) (ls : List Bytes) (t : Bool) → cut b ≡ l ∷ ls → titleLine l ≡ t → nameOf b w ≡ orElse (titleBy t l ls) w
-  unfolding nameOf
-  name-of l ls t f g = rw (f, g)
-
-  none-cut : length b ≤ 0 → nameOf b w ≡ w
-  unfolding nameOf
-  none-cut h = let f : cut b ≡ [] = ap cut (drop-of-length-le b {i = 0} h) ∙ cut-nil in rw f
-
+module _ (b : Bytes) (e : ℕ) (q : e ≡ 0 + lineLen (drop 0 b)) where
   -- "the first line is no TITLE line"
-  pub name-other : titleLine (take (e - 0) (drop 0 b)) ≡ false → nameOf b w ≡ w
-  name-other t = by (ltb 0 (length b)) refl
+  pub title-other : titleLine (take (e - 0) (drop 0 b)) ≡ false → Titled b (part 0 0)
+  title-other t = by (ltb 0 (length b)) refl
     where
-      by : (more : Bool) → ltb 0 (length b) ≡ more → nameOf b w ≡ w
-      by true m = name-of _ _ false (lines-are b 0 e (ltb-true 0 (length b) m) q) t
-      by false m = none-cut (ltb-false 0 (length b) m)
+      by : (more : Bool) → ltb 0 (length b) ≡ more → Titled b (part 0 0)
+      by true m =
+          let f : cut b ≡ take (e - 0) (drop 0 b) ∷ cut (drop e b) = lines-are b 0 e (ltb-true 0 (length b) m) q in
+          record { is = rw (f, t); start = rw (f, t); order = omega arith; high = omega arith }
+      by false m =
+          let f : cut b ≡ [] = ap cut (drop-of-length-le b {i = 0} (ltb-false 0 (length b) m)) ∙ cut-nil in
+          record { is = rw f; start = rw f; order = omega arith; high = omega arith }
 
   module _ (t : titleLine (take (e - 0) (drop 0 b)) ≡ true) where
     some-line : 0 < length b
@@ -151,30 +146,61 @@ module _ (b w : Bytes) (e : ℕ) (q : e ≡ 0 + lineLen (drop 0 b)) where
       line-size : length (take (e - 0) (drop 0 b)) ≡ e
       line-size = let z : e - 0 ≡ e = omega arith in ap (λ (n : ℕ). length (take n b)) z ∙ length-take-le e b end-high
 
-      pub from-high : from ≤ e
+      from-high : from ≤ e
       from-high = omega (arith, v .high, line-size)
 
-      name-trimmed : nameOf b w ≡ orElse (trim (take (to - from) (drop from b))) w
+      text-is : take (to - from) (drop from b) ≡ valueOf (lineOf (take (e - 0) (drop 0 b))) ++ untilLabel (cut (drop e b))
       unfolding textTo
-      name-trimmed =
+      text-is =
           let m : to - e ≡ length (untilLabel (cut (drop e b))) = omega (arith, x .is) in
           let z : e ≡ e - 0 = omega arith in
           let u : take (to - e) (drop e b) ≡ untilLabel (cut (drop e b)) = ap (λ (i : ℕ). take i (drop e b)) m ∙ text-take (drop e b) in
           let y : drop from (take e b) ≡ valueOf (lineOf (take (e - 0) (drop 0 b))) = ap (λ (i : ℕ). drop from (take i b)) z ∙ v .is in
-          name-of _ _ true (lines-are b 0 e some-line q) t
-          ∙ ap (λ (r : Bytes). orElse (trim r) w)
-          (sym (slice-join b from e to from-high (x .low) end-high ∙ ap (λ (r : Bytes). r ++ take (to - e) (drop e b)) y ∙ ap (λ (r : Bytes). valueOf (lineOf (take (e - 0) (drop 0 b))) ++ r) u))
+          slice-join b from e to from-high (x .low) end-high ∙ ap (λ (r : Bytes). r ++ take (to - e) (drop e b)) y ∙ ap (λ (r : Bytes). valueOf (lineOf (take (e - 0) (drop 0 b))) ++ r) u
+
+      from-is : from ≡ length (take (e - 0) (drop 0 b)) - length (valueOf (lineOf (take (e - 0) (drop 0 b))))
+      from-is = omega (arith, v .high, ap length (sym (v .is)), length-drop from (take (e - 0) (drop 0 b)))
 
       module _ (kept : Field) (k : Trimmed (take (to - from) (drop from b)) kept) where
-        -- "where the title is empty"
-        pub name-empty : kept .from ≡ kept .to → nameOf b w ≡ w
-        name-empty f =
-            let n : kept .to - kept .from ≡ 0 = omega arith in
-            let p : trim (take (to - from) (drop from b)) ≡ [] = sym (k .is) ∙ ap (λ (i : ℕ). take i (drop (kept .from) (take (to - from) (drop from b)))) n in
-            name-trimmed ∙ ap (λ (r : Bytes). orElse r w) p
+        text-high : length (take (to - from) (drop from b)) ≤ length b - from
+        text-high = omega (arith, ap length (take-append-drop (to - from) (drop from b)), length-append (take (to - from) (drop from b)) (drop (to - from) (drop from b)), length-drop from b)
 
-        pub name-shown : (kept .from ≡ kept .to → ⊥) → fieldIn (take (to - from) (drop from b)) kept ≡ nameOf b w
-        name-shown f =
-            let text : Bytes = take (to - from) (drop from b) in
-            let n : length (fieldIn text kept) ≡ kept .to - kept .from = length-take-le (kept .to - kept .from) (drop (kept .from) text) (omega (arith, k .order, k .high, length-drop (kept .from) text)) in
-            sym (name-trimmed ∙ ap (λ (r : Bytes). orElse r w) (sym (k .is)) ∙ or-some (fieldIn text kept) w (omega (arith, k .order)))
+        kept-is : fieldIn b (part (from + kept .from) (from + kept .to)) ≡ trim (take (to - from) (drop from b))
+        kept-is =
+            let n : from + kept .to - (from + kept .from) ≡ kept .to - kept .from = omega arith in
+            ap (λ (i : ℕ). take i (drop (from + kept .from) b)) n
+            ∙ ap (take (kept .to - kept .from)) (sym (drop-drop (kept .from) from b))
+            ∙ ap (λ (r : Bytes). take (kept .to - kept .from) (drop (kept .from) r)) (sym (take-append-drop (to - from) (drop from b)))
+            ∙ slice-before (kept .to - kept .from) (kept .from) (take (to - from) (drop from b)) _ (omega (arith, k .order, k .high))
+            ∙ k .is
+
+        pub title-kept : Titled b (part (from + kept .from) (from + kept .to))
+        title-kept =
+            let f : cut b ≡ take (e - 0) (drop 0 b) ∷ cut (drop e b) = lines-are b 0 e some-line q in
+            record {
+              is = rw (f, t) (kept-is ∙ ap trim text-is);
+              start = rw (f, t) (ap₂ (λ (i j : ℕ). i + j) from-is (k .low ∙ ap lead text-is));
+              order = omega (arith, k .order);
+              high = omega (arith, k .high, text-high, from-high, end-high);
+            }
+
+-- THE NAME, from the title's part
+pub or-some : (t w : Bytes) → 0 < length t → orElse t w ≡ t
+or-some [] w h = absurd (omega arith)
+or-some (x ∷ t) w h = refl
+
+module _ (b w : Bytes) (r : Field) (k : Titled b r) where
+  -- "where the title is empty"
+  pub name-empty : r .from ≡ r .to → nameOf b w ≡ w
+  unfolding nameOf
+  name-empty f =
+      let n : r .to - r .from ≡ 0 = omega arith in
+      let p : titleOf (cut b) ≡ [] = sym (k .is) ∙ ap (λ (i : ℕ). take i (drop (r .from) b)) n in
+      ap (λ (t : Bytes). orElse t w) p
+
+  pub title-size : length (titleOf (cut b)) ≡ r .to - r .from
+  title-size = ap length (sym (k .is)) ∙ length-take-le (r .to - r .from) (drop (r .from) b) (omega (arith, k .order, k .high, length-drop (r .from) b))
+
+  pub name-shown : (r .from ≡ r .to → ⊥) → fieldIn b r ≡ nameOf b w
+  unfolding nameOf
+  name-shown f = k .is ∙ sym (or-some (titleOf (cut b)) w (omega (arith, title-size, k .order)))

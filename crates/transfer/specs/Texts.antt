@@ -1,12 +1,15 @@
--- Where a text starts and ends in its block: document 01, "What follows `=` on a label line counts as the record's first line", and it goes on up to the next
--- label line. Assumes nothing.
-use Prim.Native.Nat.{ℕ, _+_, _≤_}
+-- Where a text starts and ends in its block, and where the title stands: document 01, "What follows `=` on a label line counts as the record's first line", and
+-- it goes on up to the next label line. Assumes nothing.
+use Prim.Native.Nat.{ℕ, _+_, _-_, _≤_}
 use mathlib.Core.Path.{_≡_}
-use mathlib.Core.List.{List}
+use mathlib.Core.Bool.{Bool, true, false}
+use mathlib.Core.List.{List, [], _∷_, _++_}
 use lib.ListN.{length, drop}
-use Rattle.format.specs.Bytes.{Bytes, cut}
-use Rattle.format.specs.Labels.{lineOf}
-use Rattle.format.specs.Walking.{untilLabel, valueOf}
+use Rattle.format.specs.Bytes.{Bytes, cut, lead}
+use Rattle.format.specs.Labels.{lineOf, titleLine}
+use Rattle.format.specs.Walking.{untilLabel, valueOf, titleOf}
+use Rattle.scan.specs.declared.fields.Field.{Field}
+use Rattle.scan.specs.NextFields.{fieldIn}
 
 -- the place where a text ends that goes on at a place with some lines
 unfoldable pub textTo : (at : ℕ) → List Bytes → ℕ
@@ -22,3 +25,19 @@ pub record TextEnd (block : Bytes) (at r : ℕ) : Type 0 where
 pub record ValueAt (line : Bytes) (r : ℕ) : Type 0 where
   pub is : drop r line ≡ valueOf (lineOf line)
   pub high : r ≤ length line
+
+-- where the title starts in a block of these lines, behind the `=` of a TITLE line and what is cut in front; 0 where the first line is none
+abbrev pub startBy : (title : Bool) → Bytes → List Bytes → ℕ
+startBy true l ls = length l - length (valueOf (lineOf l)) + lead (valueOf (lineOf l) ++ untilLabel ls)
+startBy false l ls = 0
+
+abbrev pub titleStart : List Bytes → ℕ
+titleStart [] = 0
+titleStart (l ∷ ls) = startBy (titleLine l) l ls
+
+-- r is the part of the block that is its title
+pub record Titled (block : Bytes) (r : Field) : Type 0 where
+  pub is : fieldIn block r ≡ titleOf (cut block)
+  pub start : r .from ≡ titleStart (cut block)
+  pub order : r .from ≤ r .to
+  pub high : r .to ≤ length block

@@ -2,7 +2,8 @@
 ghost use mathlib.Core.Path.{_≡_};
 ghost use Rattle.format.specs.Bytes.{isLabel};
 ghost use Rattle.format.specs.Walking.{nameOf};
-ghost use Rattle.transfer.specs.Texts.{TextEnd, ValueAt};
+ghost use Rattle.transfer.specs.Texts.{TextEnd, Titled, ValueAt};
+use scan::fields::Field;
 use scan::labels::LineKind;
 
 // Whether a line is a label line: "A label line starts with `##` in its first column".
@@ -44,24 +45,35 @@ fn value_at(line: &[u8]) -> usize
     }
 }
 
-// The title of the block, or the stand-in, both lent for one time.
-fn title_or<'a>(block: &'a [u8], stand_in: &'a [u8]) -> &'a [u8]
-    ensures { λ r. ⌜ now r ≡ nameOf (now (block .entry)) (now (stand_in .entry)) ⌝ }
+// The part of the block that is its title; its ends are equal where the title is empty or the first line is no TITLE line.
+pub fn title(block: &[u8]) -> Field
+    ensures { λ r. ⌜ Titled (now (block .entry)) r ⌝ }
 {
     let end = scan::lines::line_end(block, 0);
     if !scan::labels::is_title_line(&block[0..end]) {
-        return stand_in;
+        return Field { from: 0, to: 0 };
     }
     let from = value_at(&block[0..end]);
     let to = text_end(block, end);
     let text = &block[from..to];
     let kept = scan::texts::trimmed(text);
-    let first = kept.from;
-    let last = kept.to;
+    Field {
+        from: from + kept.from,
+        to: from + kept.to,
+    }
+}
+
+// The title of the block, or the stand-in, both lent for one time.
+fn title_or<'a>(block: &'a [u8], stand_in: &'a [u8]) -> &'a [u8]
+    ensures { λ r. ⌜ now r ≡ nameOf (now (block .entry)) (now (stand_in .entry)) ⌝ }
+{
+    let part = title(block);
+    let first = part.from;
+    let last = part.to;
     if first == last {
         return stand_in;
     }
-    &text[first..last]
+    &block[first..last]
 }
 
 // "The name to show is a part of the block, its title, or the caller's stand-in bytes where the title is empty or the first line is no TITLE line." The block
