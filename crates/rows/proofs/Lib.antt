@@ -9,6 +9,5 @@ pub mod MoveLaws
 pub mod RunLaws
 pub mod PassLaws
 pub mod VerdictLaws
-pub mod SumLaws
 pub mod PartLaws
 pub mod ShapeLaws

@@ -1,5 +1,5 @@
 -- The parts that rows share: atoms in front, an optional last field, and the fields behind those read: document 01, "Rows". Assumes nothing.
-use Prim.Native.Nat.{ℕ, suc, _≤_, _<_}
+use Prim.Native.Nat.{ℕ, suc, _-_, _≤_, _<_}
 use mathlib.Core.Path.{_≡_, refl, sym, ap, _∙_, subst}
 use mathlib.Core.Bool.{Bool, true, false}
 use mathlib.Core.Option.{Option, none, some}
@@ -8,11 +8,12 @@ use native.Mathlib.Omega.{arith}
 use native.Mathlib.Nat.{add-zero}
 use native.Mathlib.Numerals.{add-one}
 use lib.Dec.{eqb}
-use lib.ListN.{length, drop, getD}
+use lib.ListN.{length, take, drop, getD}
 use lib.Seq.{getD-drop, drop-drop}
 use borrow.Author.Tests.{eqb-true, eqb-false}
 use Rattle.lists.specs.Lists.{isNil}
 use Rattle.lists.proofs.Bools.{torn}
+use Rattle.lists.proofs.ListLaws.{nil-is}
 use Rattle.format.specs.Bytes.{Bytes, fields}
 use Rattle.format.specs.Rows.{_andThen_, number, field, optional, firstNumbers}
 use Rattle.scan.specs.NextFields.{fieldIn, NextField}
@@ -20,11 +21,13 @@ use Rattle.scan.specs.ShownNumbers.{shownNumber, Shows}
 use Rattle.scan.specs.declared.fields.Field.{Field}
 use Rattle.scan.specs.declared.numbers.Numeral.{Numeral}
 use Rattle.scan.specs.declared.numbers.Numeral.the-variants as N
-use Rattle.rows.specs.Parts.{Behind, AtomIs, ShowsAtom, TwoAre, ShowsTwo}
+use Rattle.rows.specs.Parts.{Behind, AtomIs, ShowsAtom, TwoAre, ShowsTwo, OneLeft, ShowsOnly}
 use Rattle.rows.specs.declared.parts.AtomAt.{AtomAt}
 use Rattle.rows.specs.declared.parts.AtomAt.the-variants as A
 use Rattle.rows.specs.declared.parts.TwoAtoms.{TwoAtoms}
 use Rattle.rows.specs.declared.parts.TwoAtoms.the-variants as B
+use Rattle.rows.specs.declared.parts.OnlyField.{OnlyField}
+use Rattle.rows.specs.declared.parts.OnlyField.the-variants as O
 
 -- AN ANSWER taken apart
 module _ (bound : ℕ) (asked : Option ℕ) (r : Numeral) (s : Shows bound asked r) where
@@ -58,6 +61,26 @@ module _ (line : Bytes) (r : TwoAtoms) (s : ShowsTwo line r) where
   pub two-none : r ≡ B.Wrong → firstNumbers 2 (fields line) ≡ none
   two-none e = subst (ShowsTwo line) e s
 
+-- A LAST FIELD that may be absent, by the fields that are left
+module _ (line : Bytes) (at : ℕ) (r : OnlyField) (s : ShowsOnly line at r) where
+  pub one-told : (from to : ℕ) → r ≡ O.One from to → OneLeft line at from to
+  one-told from to e = subst (ShowsOnly line at) e s
+
+  module _ (bound : ℕ) (shape : Bytes → Option ℕ) where
+    pub absent-shows : r ≡ O.Absent → 0 < bound → Shows bound (optional shape (fields (drop at line))) (N.Value 0)
+    absent-shows e h = value-shows bound 0 (optional shape (fields (drop at line))) (ap (optional shape) (subst (ShowsOnly line at) e s)) h
+
+    pub one-shows : (from to : ℕ) → r ≡ O.One from to → (w : Numeral) → Shows bound (shape (take (to - from) (drop from line))) w → Shows bound (optional shape (fields (drop at line))) w
+    one-shows from to e w h = shows-same bound (optional shape (fields (drop at line))) (shape (take (to - from) (drop from line))) w (ap (optional shape) (one-told from to e .is)) h
+
+    pub more-shows : r ≡ O.More → Shows bound (optional shape (fields (drop at line))) N.Wrong
+    more-shows e = wrong-shows bound (optional shape (fields (drop at line))) (go (fields (drop at line)) (subst (ShowsOnly line at) e s))
+      where
+        go : (fs : List Bytes) → isNil (drop 1 fs) ≡ false → optional shape fs ≡ none
+        go [] e = torn true refl e
+        go (f ∷ []) e = torn true refl e
+        go (f ∷ g ∷ fs) e = refl
+
 -- THE FIELD at a place
 module _ (line : Bytes) (at : ℕ) (f : Field) (next : NextField line at f) where
   pub end-is : eqb (f .from) (f .to) ≡ isNil (fields (drop at line))
@@ -70,27 +93,15 @@ module _ (line : Bytes) (at : ℕ) (f : Field) (next : NextField line at f) wher
           let o : f .from ≤ f .to = next .order in
           e ∙ sym (ap isNil (next .some (omega arith)))
 
-  module _ (shape : Bytes → Option ℕ) where
-    pub optional-absent : f .from ≡ f .to → optional shape (fields (drop at line)) ≡ some 0
-    optional-absent e = ap (optional shape) (next .none e)
+  module _ (n : f .from ≡ f .to → ⊥) where
+    there : fields (drop at line) ≡ fieldIn line f ∷ fields (drop (f .to) line)
+    there = let o : f .from ≤ f .to = next .order in next .some (omega arith)
 
-    module _ (n : f .from ≡ f .to → ⊥) where
-      there : fields (drop at line) ≡ fieldIn line f ∷ fields (drop (f .to) line)
-      there = let o : f .from ≤ f .to = next .order in next .some (omega arith)
+    pub more-left : isNil (fields (drop (f .to) line)) ≡ false → isNil (drop 1 (fields (drop at line))) ≡ false
+    more-left e = ap (λ (fs : List Bytes). isNil (drop 1 fs)) there ∙ e
 
-      pub optional-more : isNil (fields (drop (f .to) line)) ≡ false → optional shape (fields (drop at line)) ≡ none
-      optional-more e = ap (optional shape) there ∙ go (fields (drop (f .to) line)) e
-        where
-          go : (fs : List Bytes) → isNil fs ≡ false → optional shape (fieldIn line f ∷ fs) ≡ none
-          go [] e = torn true refl e
-          go (g ∷ fs) e = refl
-
-      pub optional-one : isNil (fields (drop (f .to) line)) ≡ true → optional shape (fields (drop at line)) ≡ shape (fieldIn line f)
-      optional-one e = ap (optional shape) there ∙ go (fields (drop (f .to) line)) e
-        where
-          go : (fs : List Bytes) → isNil fs ≡ true → optional shape (fieldIn line f ∷ fs) ≡ shape (fieldIn line f)
-          go [] e = refl
-          go (g ∷ fs) e = torn false e refl
+    pub one-left : isNil (fields (drop (f .to) line)) ≡ true → at ≤ length line → OneLeft line at (f .from) (f .to)
+    one-left e h = record { is = there ∙ ap (λ (fs : List Bytes). fieldIn line f ∷ fs) (nil-is (fields (drop (f .to) line)) e); order = next .order; high = next .high h }
 
   -- a field behind the first n of the line
   module _ (n : ℕ) (b : Behind line n at) where

@@ -6,7 +6,7 @@ ghost use Rattle.lists.specs.Lists.{isNil};
 ghost use Rattle.format.specs.Bytes.{fields};
 ghost use Rattle.format.specs.Rows.{optional, number, group};
 ghost use Rattle.scan.specs.ShownNumbers.{Shows};
-ghost use Rattle.rows.specs.Parts.{ShowsAtom, ShowsTwo};
+ghost use Rattle.rows.specs.Parts.{ShowsAtom, ShowsTwo, ShowsOnly};
 use scan::fields::next_field;
 use scan::groups::group;
 use scan::numbers::Numeral;
@@ -22,6 +22,13 @@ pub enum AtomAt {
 pub enum TwoAtoms {
     Both(u32, u32, usize),
     Wrong,
+}
+
+// The fields that are left: none, one and its ends, or more.
+pub enum OnlyField {
+    Absent,
+    One(usize, usize),
+    More,
 }
 
 // The first field from `at` on, read as a number.
@@ -59,21 +66,33 @@ pub fn at_end(line: &[u8], at: usize) -> bool
     field.from == field.to
 }
 
-// A last field that is a number, 0 where it is absent: "optional hydrogens 0 to 15 (absent means 0)".
-pub fn last_number(line: &[u8], at: usize) -> Numeral
+// The one field that is left from `at` on, if it is one.
+fn only_field(line: &[u8], at: usize) -> OnlyField
     requires { ⌜ at ≤ length (now line) ⌝ }
-    ensures { λ r. ⌜ Shows 1000000 (optional number (fields (drop at (now (line .entry))))) r ⌝ }
+    ensures { λ r. ⌜ ShowsOnly (now (line .entry)) at r ⌝ }
 {
     let field = next_field(line, at);
     let from = field.from;
     let to = field.to;
     if from == to {
-        return Numeral::Value(0);
+        return OnlyField::Absent;
     }
     if !at_end(line, to) {
-        return Numeral::Wrong;
+        return OnlyField::More;
     }
-    number(&line[from..to])
+    OnlyField::One(from, to)
+}
+
+// A last field that is a number, 0 where it is absent: "optional hydrogens 0 to 15 (absent means 0)".
+pub fn last_number(line: &[u8], at: usize) -> Numeral
+    requires { ⌜ at ≤ length (now line) ⌝ }
+    ensures { λ r. ⌜ Shows 1000000 (optional number (fields (drop at (now (line .entry))))) r ⌝ }
+{
+    match only_field(line, at) {
+        OnlyField::Absent => Numeral::Value(0),
+        OnlyField::One(from, to) => number(&line[from..to]),
+        OnlyField::More => Numeral::Wrong,
+    }
 }
 
 // A last field that is a group, 0 where it is absent: "optional group `0`, A to Z or a to z (absent means 0)".
@@ -81,14 +100,9 @@ pub fn last_group(line: &[u8], at: usize) -> Numeral
     requires { ⌜ at ≤ length (now line) ⌝ }
     ensures { λ r. ⌜ Shows 123 (optional group (fields (drop at (now (line .entry))))) r ⌝ }
 {
-    let field = next_field(line, at);
-    let from = field.from;
-    let to = field.to;
-    if from == to {
-        return Numeral::Value(0);
+    match only_field(line, at) {
+        OnlyField::Absent => Numeral::Value(0),
+        OnlyField::One(from, to) => group(&line[from..to]),
+        OnlyField::More => Numeral::Wrong,
     }
-    if !at_end(line, to) {
-        return Numeral::Wrong;
-    }
-    group(&line[from..to])
 }
