@@ -42,16 +42,19 @@ pub fn atom_line(line: &[u8], last: u32, atoms: usize, region: &mut [u32]) -> Ro
     if 15 < hydrogens {
         return RowAfter::Stop(10);
     }
-    if number as usize != atoms + 1 {
+    let place = number as usize;
+    let next = atoms + 1;
+    let isotope = rows::elements::isotope_of(mark, last);
+    let element = isotope.element;
+    if place != next {
         return RowAfter::Stop(11);
     }
-    let isotope = rows::elements::isotope_of(mark, last);
-    if isotope.element == 0 {
+    if element == 0 {
         return RowAfter::Stop(12);
     }
     if 256 <= atoms {
         return RowAfter::Stop(14);
     }
-    put_atom(region, atoms, isotope.element, isotope.mass, hydrogens);
-    RowAfter::Kept(atoms + 1)
+    put_atom(region, atoms, element, isotope.mass, hydrogens);
+    RowAfter::Kept(next)
 }

@@ -35,35 +35,32 @@ returns-3 c = (c .before .before .before .before .before .before .before .before
 returns-4 : tie.Need-returns-4
 returns-4 c = (c .before .before .before .before .before .before .before .before .before .before .before .pre .0, stop-within _ _, hydrogens-10 _ _ _ _ (sym (c .before .before .before .before .before .before .before .before .is-bare .ensures) ∙ c .before .before .before .before .before .before .before .if1 .left) _ _ (c .before .before .before .before .before .before .atom-row .ensures) _ _ _ (c .before .before .before .before .number .given .1) (c .if3 .taken))
 
-cast-if4 : tie.Need-cast-if4
-cast-if4 c = search needs
+cast-place : tie.Need-cast-place
+cast-place c = search needs
 
-add-if4 : tie.Need-add-if4
-add-if4 c = search needs
-
-returns-5 : tie.Need-returns-5
-returns-5 c = (c .before .before .before .before .before .before .before .before .before .before .before .before .pre .0, stop-within _ _, shows-11 _ _ _ _ (sym (c .before .before .before .before .before .before .before .before .before .is-bare .ensures) ∙ c .before .before .before .before .before .before .before .before .if1 .left) _ _ (c .before .before .before .before .before .before .before .atom-row .ensures) _ _ _ (c .before .before .before .before .before .number .given .1) (sym (c .before .before .before .mass-fits .ensures) ∙ not-false _ (c .before .before .if2 .left)) (c .before .if3 .left) (c .if4 .taken))
+add-next : tie.Need-add-next
+add-next c = search needs
 
 isotope-of-requires : tie.Need-isotope-of-requires
 isotope-of-requires c κs = search needs
 
+returns-5 : tie.Need-returns-5
+returns-5 c = (c .before .before .before .before .before .before .before .before .before .before .before .before .before .pre .0, stop-within _ _, shows-11 _ _ _ _ (sym (c .before .before .before .before .before .before .before .before .before .before .is-bare .ensures) ∙ c .before .before .before .before .before .before .before .before .before .if1 .left) _ _ (c .before .before .before .before .before .before .before .before .atom-row .ensures) _ _ _ (c .before .before .before .before .before .before .number .given .1) (sym (c .before .before .before .before .mass-fits .ensures) ∙ not-false _ (c .before .before .before .if2 .left)) (c .before .before .if3 .left) (c .if4 .taken))
+
 returns-6 : tie.Need-returns-6
-returns-6 c = (c .before .before .before .before .before .before .before .before .before .before .before .before .before .before .before .pre .0, stop-within _ _, shows-12 _ _ _ _ (sym (c .before .before .before .before .before .before .before .before .before .before .before .before .is-bare .ensures) ∙ c .before .before .before .before .before .before .before .before .before .before .before .if1 .left) _ _ (c .before .before .before .before .before .before .before .before .before .before .atom-row .ensures) _ _ _ (c .before .before .before .before .before .before .before .before .number .given .1) (sym (c .before .before .before .before .before .before .mass-fits .ensures) ∙ not-false _ (c .before .before .before .before .before .if2 .left)) (c .before .before .before .before .if3 .left) (c .before .before .before .if4 .left) _ (c .before .before .isotope-of .ensures) (c .if5 .taken))
+returns-6 c = (c .before .before .before .before .before .before .before .before .before .before .before .before .before .before .pre .0, stop-within _ _, shows-12 _ _ _ _ (sym (c .before .before .before .before .before .before .before .before .before .before .before .is-bare .ensures) ∙ c .before .before .before .before .before .before .before .before .before .before .if1 .left) _ _ (c .before .before .before .before .before .before .before .before .before .atom-row .ensures) _ _ _ (c .before .before .before .before .before .before .before .number .given .1) (sym (c .before .before .before .before .before .mass-fits .ensures) ∙ not-false _ (c .before .before .before .before .if2 .left)) (c .before .before .before .if3 .left) (c .before .if4 .left) _ (c .before .before .isotope-of .ensures) (c .if5 .taken))
 
 returns-7 : tie.Need-returns-7
-returns-7 c = (c .before .before .before .before .before .before .before .before .before .before .before .before .before .before .before .before .pre .0, stop-within _ _, shows-14 _ _ _ _ (sym (c .before .before .before .before .before .before .before .before .before .before .before .before .before .is-bare .ensures) ∙ c .before .before .before .before .before .before .before .before .before .before .before .before .if1 .left) _ _ (c .before .before .before .before .before .before .before .before .before .before .before .atom-row .ensures) _ _ _ (c .before .before .before .before .before .before .before .before .before .number .given .1) (sym (c .before .before .before .before .before .before .before .mass-fits .ensures) ∙ not-false _ (c .before .before .before .before .before .before .if2 .left)) (c .before .before .before .before .before .if3 .left) (c .before .before .before .before .if4 .left) _ (c .before .before .before .isotope-of .ensures) (c .before .if5 .left) (c .if6 .taken))
+returns-7 c = (c .before .before .before .before .before .before .before .before .before .before .before .before .before .before .before .pre .0, stop-within _ _, shows-14 _ _ _ _ (sym (c .before .before .before .before .before .before .before .before .before .before .before .before .is-bare .ensures) ∙ c .before .before .before .before .before .before .before .before .before .before .before .if1 .left) _ _ (c .before .before .before .before .before .before .before .before .before .before .atom-row .ensures) _ _ _ (c .before .before .before .before .before .before .before .before .number .given .1) (sym (c .before .before .before .before .before .before .mass-fits .ensures) ∙ not-false _ (c .before .before .before .before .before .if2 .left)) (c .before .before .before .before .if3 .left) (c .before .before .if4 .left) _ (c .before .before .before .isotope-of .ensures) (c .before .if5 .left) (c .if6 .taken))
 
 put-atom-requires : tie.Need-put-atom-requires
 put-atom-requires c κs = search needs
-
-add-t13 : tie.Need-add-t13
-add-t13 c = search needs
 
 same-length : tie.Need-same-length
 same-length c = search needs
 
 returns-8 : tie.Need-returns-8
-returns-8 c = (c .before .before .put-atom .ensures .0, kept-within _ _ (omega (arith, c .before .before .before .before .if6 .left)), shows-joined _ _ _ _ (sym (c .before .before .before .before .before .before .before .before .before .before .before .before .before .before .before .before .before .is-bare .ensures) ∙ c .before .before .before .before .before .before .before .before .before .before .before .before .before .before .before .before .if1 .left) _ _ (c .before .before .before .before .before .before .before .before .before .before .before .before .before .before .before .atom-row .ensures) _ _ _ (c .before .before .before .before .before .before .before .before .before .before .before .before .before .number .given .1) (sym (c .before .before .before .before .before .before .before .before .before .before .before .mass-fits .ensures) ∙ not-false _ (c .before .before .before .before .before .before .before .before .before .before .if2 .left)) (c .before .before .before .before .before .before .before .before .before .if3 .left) (c .before .before .before .before .before .before .before .before .if4 .left) _ (c .before .before .before .before .before .before .before .isotope-of .ensures) (c .before .before .before .before .before .if5 .left) (c .before .before .before .before .if6 .left) (c .before .before .put-atom .ensures .1))
+returns-8 c = (c .before .before .put-atom .ensures .0, kept-within _ _ (omega (arith, c .before .before .before .before .if6 .left)), shows-joined _ _ _ _ (sym (c .before .before .before .before .before .before .before .before .before .before .before .before .before .before .before .before .is-bare .ensures) ∙ c .before .before .before .before .before .before .before .before .before .before .before .before .before .before .before .if1 .left) _ _ (c .before .before .before .before .before .before .before .before .before .before .before .before .before .before .atom-row .ensures) _ _ _ (c .before .before .before .before .before .before .before .before .before .before .before .before .number .given .1) (sym (c .before .before .before .before .before .before .before .before .before .before .mass-fits .ensures) ∙ not-false _ (c .before .before .before .before .before .before .before .before .before .if2 .left)) (c .before .before .before .before .before .before .before .before .if3 .left) (c .before .before .before .before .before .before .if4 .left) _ (c .before .before .before .before .before .before .before .isotope-of .ensures) (c .before .before .before .before .before .if5 .left) (c .before .before .before .before .if6 .left) (c .before .before .put-atom .ensures .1))
 
 pub atom-line-spec : {M : Type 1} → statement M
 atom-line-spec =
@@ -78,13 +75,12 @@ atom-line-spec =
     mass-fits-requires
     returns-3
     returns-4
-    cast-if4
-    add-if4
-    returns-5
+    cast-place
+    add-next
     isotope-of-requires
+    returns-5
     returns-6
     returns-7
     put-atom-requires
-    add-t13
     same-length
     returns-8)
