@@ -25,8 +25,9 @@ use Rattle.demands.proofs.WayBackLines.{stateOf, Through, through-nil, 
 use Rattle.demands.proofs.WayBackLabels.{atomsLabel, atoms-written, label-value}
 use Rattle.demands.proofs.WayBackRows.{unless-some, no-value, bare-full, bare-fine}
 
-four : (a b c d : Bool) (w x y z : ℕ) (t : Turn) → a ≡ false → b ≡ false → c ≡ false → d ≡ false → (if a stop w else if b stop x else if c stop y else if d stop z else t) ≡ t
-four a b c d w x y z t p q r s = rw (p, q, r, s) refl
+-- tests that all pass
+four-pass : (a b c d : Bool) (w x y z : ℕ) (t : Turn) → a ≡ false → b ≡ false → c ≡ false → d ≡ false → (if a stop w else if b stop x else if c stop y else if d stop z else t) ≡ t
+four-pass a b c d w x y z t p q r s = rw (p, q, r, s) refl
 
 words-some : (n : ℕ) (a : Atom) → 0 < length (atomWords n a)
 unfolding atomWords
@@ -50,7 +51,7 @@ module _ (u : Rules) (most : u .elements ≤ 103) (seen : List Label) (begun : i
         let k : ℕ = u .elements in
         let m : not (massOk (spelt (a .kind)) && leb (a .hydrogens) 15) ≡ false =
         ap not (and-both (massOk (spelt (a .kind))) (leb (a .hydrogens) 15) (spelt-mass (a .kind) (fine .low) (omega (arith, fine .high)) (fine .mass)) (le-leb (a .hydrogens) 15 (fine .hydrogens))) in
-        four (not (massOk (spelt (a .kind)) && leb (a .hydrogens) 15)) (not (eqb n (suc (length done)))) (unknown k (spelt (a .kind))) (leb 256 (length done)) 10 11 12 14 _
+        four-pass (not (massOk (spelt (a .kind)) && leb (a .hydrogens) 15)) (not (eqb n (suc (length done)))) (unknown k (spelt (a .kind))) (leb 256 (length done)) 10 11 12 14 _
         m (ap not (eq-eqb n (suc (length done)) number)) (known-back k (a .kind) (fine .low) (fine .high) most) (lt-leb 256 (length done) room)
         ∙ ap (λ (i : Isotope). Go (behind at (done ++ (record { kind = i; hydrogens = a .hydrogens } ∷ [])))) (isotope-back k (a .kind) (fine .low) (fine .high) most)
 

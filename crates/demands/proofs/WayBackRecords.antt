@@ -26,7 +26,7 @@ use Rattle.format.proofs.Computing.{computing}
 use Rattle.demands.proofs.WayBackLines.{stateOf, Through, through-line, record-full, inline-fine}
 use Rattle.demands.proofs.WayBackLabels.{titleLabel, title-written, title-line, versionLabel, version-written, originLabel, origin-written, ownerLabel, owner-written, idLabel, id-written, endLabel, end-written, label-value}
 use Rattle.demands.proofs.WayBackTexts.{text-through, text-first}
-use Rattle.demands.proofs.WayBackRows.{three, nothing-more, bare-full, bare-fine}
+use Rattle.demands.proofs.WayBackRows.{three-pass, nothing-more, bare-full, bare-fine}
 
 -- the structure of which nothing but the block id is read
 abbrev pub blankWith : ℕ → Structure
@@ -136,7 +136,7 @@ module _ (u : Rules) (at : ℕ) (seen : List Label) (running : Holds) (f : List 
         let a : (any (lacks (endLabel ∷ seen)) (2 ∷ 3 ∷ 4 ∷ 5 ∷ []) || eqb (length (s .atoms)) 0) ≡ false = or-neither (any (lacks (endLabel ∷ seen)) (2 ∷ 3 ∷ 4 ∷ 5 ∷ [])) _ l (ne-eqb (length (s .atoms)) 0 (λ q. omega arith)) in
         through-line u there st (h ++ valued []) (bare-full h (end-written .one))
         (label-value u there h endLabel end-written begun m o End refl refl (valued []) bare-fine
-        ∙ ap (endTurn u st) nothing-more ∙ three _ false _ 8 9 15 (Go st) a refl (agreed (u .totals)))
+        ∙ ap (endTurn u st) nothing-more ∙ three-pass _ false _ 8 9 15 (Go st) a refl (agreed (u .totals)))
       where
         agreed : (t : Bool) → (t && not (agree f (entriesOf (s .atoms)))) ≡ false
         agreed true = ap not g

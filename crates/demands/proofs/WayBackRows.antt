@@ -83,8 +83,9 @@ pub unless-some : (st : State) (fs : List Bytes) (t : Turn) → 0 < length fs �
 unless-some st [] t h = absurd (omega arith)
 unless-some st (f ∷ fs) t h = refl
 
-pub three : (a b c : Bool) (x y z : ℕ) (t : Turn) → a ≡ false → b ≡ false → c ≡ false → (if a stop x else if b stop y else if c stop z else t) ≡ t
-three a b c x y z t p q r = rw (p, q, r) refl
+-- tests that all pass
+pub three-pass : (a b c : Bool) (x y z : ℕ) (t : Turn) → a ≡ false → b ≡ false → c ≡ false → (if a stop x else if b stop y else if c stop z else t) ≡ t
+three-pass a b c x y z t p q r = rw (p, q, r) refl
 
 module _ (l : ListOf) (at : ℕ) (seen : List Label) (texts : List Prose) (f : List Entry) (s : Structure) (n : ℕ) (acc : List Row) (count : length (s .atoms) ≡ n) (held : rowsOf l s ≡ acc)
     (r : Row) (ok : rowOk l n r ≡ true) (new : any (meets l r) acc ≡ false) (room : length acc < most l) where
@@ -105,7 +106,7 @@ module _ (l : ListOf) (at : ℕ) (seen : List Label) (texts : List Prose) (f : L
       let a : not (ranged l (r .value)) ≡ false = ap not (F .value) in
       let b : not (all (within 1 (length (s .atoms))) (r .atoms)) ≡ false = ap not (ap (λ (k : ℕ). all (within 1 k) (r .atoms)) count ∙ F .listed) in
       let o : ordered r ≡ r = ap (λ (ns : List ℕ). row ns (r .value) (r .group)) (sort-alone ltb (r .atoms) (F .ascending)) in
-      three (not (ranged l (r .value))) (not (all (within 1 (length (s .atoms))) (r .atoms))) (pairs eqb (r .atoms)) 10 11 13 (joinTurn l here (rowsOf l s) (ordered r)) a b (ascending-once (r .atoms) (F .ascending))
+      three-pass (not (ranged l (r .value))) (not (all (within 1 (length (s .atoms))) (r .atoms))) (pairs eqb (r .atoms)) 10 11 13 (joinTurn l here (rowsOf l s) (ordered r)) a b (ascending-once (r .atoms) (F .ascending))
       ∙ ap (λ (rs : List Row). joinTurn l here rs (ordered r)) held ∙ ap (joinTurn l here acc) o ∙ join-new
 
   pub row-step : (u : Rules) → n < 1000000 → isNil seen ≡ false → lineStep u here (line (rowWords l r)) ≡ Go after
