@@ -29,3 +29,5 @@ pub mod AtomPartLaws
 pub mod KeyedLines
 pub mod LineTurnLaws
 pub mod StepTurnLaws
+pub mod LabelTurnLaws
+pub mod AtomLineLaws

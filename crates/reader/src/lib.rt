@@ -10,3 +10,6 @@ mod values; // values.rt: the values that stand on their label line
 mod totals; // totals.rt: the formula against the atoms
 mod spread; // spread.rt: CHARGE and RADICAL
 mod keyed; // keyed.rt: lines of bonds, centres and pairs
+mod atoms; // atoms.rt: a line of ATOMLIST
+mod turns; // turns.rt: each list's line in the whole scratch
+mod line; // line.rt: one line of a block
