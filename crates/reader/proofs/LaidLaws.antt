@@ -86,7 +86,7 @@ module _ (a c r b s p l : List ℕ) (la : length a ≡ 768) (lc : length c ≡ 3
   seat-l = past-b 512 14 l (λ x. s ++ (p ++ x)) (seated-past s (p ++ l) 256 256 14 l (λ x. p ++ x) ls (seated-past p l 256 0 14 l (λ x. x) lp (seated-alone l 14 ll)))
 
 -- HOW LONG EACH REGION IS
-all-true : {A : Type 0} (xs : List A) → all (λ x. true) xs ≡ true
+pub all-true : {A : Type 0} (xs : List A) → all (λ x. true) xs ≡ true
 unfolding all
 all-true [] = refl
 all-true (x ∷ xs) = all-true xs

@@ -36,4 +36,5 @@ pub mod NumberingLaws
 pub mod RenumberLaws
 pub mod OrderingLaws
 pub mod SortedValueLaws
+pub mod LabelTurnLaws
 pub mod AtomLineLaws

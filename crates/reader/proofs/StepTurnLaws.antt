@@ -1,5 +1,5 @@
 -- A line's turn by the record that runs, from what each record's function promises: document 01, "Lines and labels". Assumes nothing.
-use Prim.Native.Nat.{ℕ, zero, suc, _+_, _-_, _≤_}
+use Prim.Native.Nat.{ℕ, zero, suc, _+_, _-_, _≤_, _<_}
 use mathlib.Core.Path.{_≡_, refl, sym, ap, _∙_}
 use mathlib.Core.Bool.{Bool, false, _||_}
 use mathlib.Core.List.{List, [], _∷_, _++_}
@@ -160,6 +160,24 @@ module _ (block : Bytes) (from end : ℕ) (p : Progress) (t : List ℕ) (b : Bou
       )
 
 -- THE LISTS' CODES
+-- what is no other record's code is a list's
+pub list-code : (n : ℕ) → n < 14 → (n ≡ 0 → ⊥) → (n ≡ 1 → ⊥) → (n ≡ 3 → ⊥) → (n ≡ 4 → ⊥) → (n ≡ 2 → ⊥) → (n ≡ 5 → ⊥) → (n ≡ 12 → ⊥) → (n ≡ 13 → ⊥) → (6 ≤ n) × (n ≤ 11)
+list-code zero h a b d e c f y z = absurd (a refl)
+list-code (suc zero) h a b d e c f y z = absurd (b refl)
+list-code (suc (suc zero)) h a b d e c f y z = absurd (c refl)
+list-code (suc (suc (suc zero))) h a b d e c f y z = absurd (d refl)
+list-code (suc (suc (suc (suc zero)))) h a b d e c f y z = absurd (e refl)
+list-code (suc (suc (suc (suc (suc zero))))) h a b d e c f y z = absurd (f refl)
+list-code (suc (suc (suc (suc (suc (suc zero)))))) h a b d e c f y z = (omega arith, omega arith)
+list-code (suc (suc (suc (suc (suc (suc (suc zero))))))) h a b d e c f y z = (omega arith, omega arith)
+list-code (suc (suc (suc (suc (suc (suc (suc (suc zero)))))))) h a b d e c f y z = (omega arith, omega arith)
+list-code (suc (suc (suc (suc (suc (suc (suc (suc (suc zero))))))))) h a b d e c f y z = (omega arith, omega arith)
+list-code (suc (suc (suc (suc (suc (suc (suc (suc (suc (suc zero)))))))))) h a b d e c f y z = (omega arith, omega arith)
+list-code (suc (suc (suc (suc (suc (suc (suc (suc (suc (suc (suc zero))))))))))) h a b d e c f y z = (omega arith, omega arith)
+list-code (suc (suc (suc (suc (suc (suc (suc (suc (suc (suc (suc (suc zero)))))))))))) h a b d e c f y z = absurd (y refl)
+list-code (suc (suc (suc (suc (suc (suc (suc (suc (suc (suc (suc (suc (suc zero))))))))))))) h a b d e c f y z = absurd (z refl)
+list-code (suc (suc (suc (suc (suc (suc (suc (suc (suc (suc (suc (suc (suc (suc n)))))))))))))) h a b d e c f y z = absurd (omega arith)
+
 six-silent : (n : ℕ) → 6 ≤ n → silent n ≡ false
 six-silent n h = rw (ne-eqb n 1 (λ e. omega arith), ne-eqb n 3 (λ e. omega arith), ne-eqb n 4 (λ e. omega arith))
 

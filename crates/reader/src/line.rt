@@ -1,0 +1,304 @@
+// One line of a block: document 01, "Lines and labels" and "Refusal numbers". "The earliest line that breaks a rule decides, and on it the lowest number": on each
+// line the tests stand in the order of their numbers. A line is the part of the block from `at` to `end`.
+ghost use mathlib.Core.Path.{_≡_};
+ghost use mathlib.Core.Bool.{true, _&&_, not};
+ghost use mathlib.Core.List.{List};
+ghost use Prim.Native.Nat.{ℕ, _≤_, _<_};
+ghost use lib.ListN.{length};
+ghost use lib.Dec.{eqb};
+ghost use Rattle.format.specs.Bytes.{Bytes, fields};
+ghost use Rattle.format.specs.Labels.{known};
+ghost use Rattle.format.specs.Formula.{formulaShape};
+ghost use Rattle.format.specs.Reading.{State, versionTurn, idTurn, formulaTurn, blankOr, endTurn, valueTurn, furtherTurn, lineStep};
+ghost use Rattle.scan.specs.ShownLines.{byCode};
+ghost use Rattle.reader.specs.declared.progress.Turn.the-variants.{Go};
+ghost use Rattle.reader.specs.Progress.{rulesOf, partOf, Counted, CountedTurn, Bounded, BoundedTurn, Flowing, FlowingTurn};
+ghost use Rattle.reader.specs.Shows.{Shows, ShowsTurn};
+ghost use Rattle.reader.specs.Lines.{Ruled, listLine, KeptTurn, SameRunning, textPut, labelTurn, begun};
+use crate::progress::Part;
+use crate::progress::Progress;
+use crate::progress::Rules;
+use crate::progress::Turn;
+use crate::seen::lacking;
+use crate::seen::note;
+use crate::seen::out_of_order;
+use crate::totals::agrees;
+use crate::turns::atoms_turn;
+use crate::turns::bonds_turn;
+use crate::turns::centres_turn;
+use crate::turns::charges_turn;
+use crate::turns::pairs_turn;
+use crate::turns::radicals_turn;
+use crate::values::BlockId;
+use crate::values::block_id;
+use crate::values::is_version;
+use rows::molform::formula_verdict;
+use scan::labels::LineKind;
+use scan::labels::line_kind;
+use scan::lines::blank;
+use scan::lines::clean;
+use scan::lines::uncommented;
+
+// A line of the list whose label has the code: 6 ATOMLIST, 7 BONDLIST, 8 CHARGE, 9 RADICAL, 10 STEREOCENTER, 11 STEREOPAIR. The line is without its comment.
+fn list_turn(line: &[u8], code: u32, last: u32, p: Progress, scratch: &mut [u32]) -> Turn
+    requires { ⌜ (length (now scratch) ≡ 2960) × Counted p × (6 ≤ code) × (code ≤ 11) × (1 ≤ last) ⌝ }
+    ensures { λ r. ⌜ (length (now (scratch .exit)) ≡ 2960) × CountedTurn p r × ((block : Bytes) (at : ℕ) (st : State) → Shows last block at p (now (scratch .entry)) st →
+        ShowsTurn last block at r (now (scratch .exit)) (listLine code last st (fields (now (line .entry))))) ⌝ }
+{
+    match code {
+        6 => atoms_turn(line, last, p, scratch),
+        7 => bonds_turn(line, p, scratch),
+        8 => charges_turn(line, p, scratch),
+        9 => radicals_turn(line, p, scratch),
+        10 => centres_turn(line, p, scratch),
+        _ => pairs_turn(line, p, scratch),
+    }
+}
+
+// The END line, its value from `from` to `to` without its comment: 8 a record missing, 9 a value, 15 formula and atoms differ.
+fn end_turn(block: &[u8], from: usize, to: usize, u: Rules, p: Progress, scratch: &[u32]) -> Turn
+    requires { ⌜ (length (now scratch) ≡ 2960) × Bounded (length (now block)) p × (from ≤ to) × (to ≤ length (now block)) × Ruled u ⌝ }
+    ensures { λ r. ⌜ KeptTurn p r × ((at : ℕ) (st : State) → Shows (u .last) (now (block .entry)) at p (now (scratch .entry)) st →
+        ShowsTurn (u .last) (now (block .entry)) at r (now (scratch .entry)) (endTurn (rulesOf u) st (fields (partOf (now (block .entry)) from to)))) ⌝ }
+{
+    if lacking(&scratch[2946..2960]) {
+        return Turn::Stop(8);
+    }
+    if p.atoms == 0 {
+        return Turn::Stop(8);
+    }
+    if !blank(&block[from..to]) {
+        return Turn::Stop(9);
+    }
+    if !u.totals {
+        return Turn::Go(p);
+    }
+    let formula = p.formula;
+    let formula_from = formula.from;
+    let formula_to = formula.to;
+    if !agrees(
+        &block[formula_from..formula_to],
+        &scratch[0..768],
+        p.atoms,
+        u.last,
+    ) {
+        return Turn::Stop(15);
+    }
+    Turn::Go(p)
+}
+
+// The formula's value from `from` to `to` without its comment, or its refusal.
+fn formula_turn(block: &[u8], from: usize, to: usize, last: u32, p: Progress) -> Turn
+    requires { ⌜ Bounded (length (now block)) p × (from ≤ to) × (to ≤ length (now block)) × (1 ≤ last) ⌝ }
+    ensures { λ r. ⌜ BoundedTurn (length (now (block .entry))) r × SameRunning p r × ((at : ℕ) (t : List ℕ) (st : State) → Shows last (now (block .entry)) at p t st →
+        ShowsTurn last (now (block .entry)) at r t (formulaTurn last st (formulaShape (partOf (now (block .entry)) from to)))) ⌝ }
+{
+    let number = formula_verdict(&block[from..to], last);
+    if number != 0 {
+        return Turn::Stop(number);
+    }
+    let mut next = p;
+    let formula = Part { from, to };
+    next.formula = formula;
+    Turn::Go(next)
+}
+
+// JCAMP-CS and BLOCK_ID, the value without its comment.
+fn version_turn(line: &[u8], p: Progress) -> Turn
+    ensures { λ r. ⌜ KeptTurn p r × ((k : ℕ) (block : Bytes) (at : ℕ) (t : List ℕ) (st : State) → Shows k block at p t st →
+        ShowsTurn k block at r t (versionTurn st (fields (now (line .entry))))) ⌝ }
+{
+    if is_version(line) {
+        return Turn::Go(p);
+    }
+    Turn::Stop(7)
+}
+
+fn id_turn(line: &[u8], p: Progress) -> Turn
+    ensures { λ r. ⌜ ((size : ℕ) → Bounded size p → BoundedTurn size r) × SameRunning p r × ((k : ℕ) (block : Bytes) (at : ℕ) (t : List ℕ) (st : State) → Shows k block at p t st →
+        ShowsTurn k block at r t (idTurn st (fields (now (line .entry))))) ⌝ }
+{
+    match block_id(line) {
+        BlockId::Value(id) => {
+            let mut next = p;
+            next.id = id;
+            Turn::Go(next)
+        }
+        BlockId::Stop(number) => Turn::Stop(number),
+    }
+}
+
+// A text that reaches up to `to`: its record's label line gives `from`, a further line only moves the end.
+fn text_turn(from: usize, to: usize, p: Progress) -> Turn
+    ensures { λ r. ⌜ r ≡ Go (textPut (p .running) (record { from = from; to = to }) p) ⌝ }
+{
+    let text = Part { from, to };
+    let running = p.running;
+    let mut next = p;
+    if running == 1 {
+        next.title = text;
+        return Turn::Go(next);
+    }
+    if running == 3 {
+        next.origin = text;
+        return Turn::Go(next);
+    }
+    next.owner = text;
+    Turn::Go(next)
+}
+
+// "What follows `=` on a label line counts as the record's first line": the value from `from` to `end`; the label is noted already.
+fn value_turn(
+    block: &[u8],
+    from: usize,
+    end: usize,
+    u: Rules,
+    p: Progress,
+    scratch: &mut [u32],
+) -> Turn
+    requires { ⌜ (length (now scratch) ≡ 2960) × Bounded (length (now block)) p × (from ≤ end) × (end ≤ length (now block)) × Ruled u ⌝ }
+    ensures { λ r. ⌜ (length (now (scratch .exit)) ≡ 2960) × BoundedTurn (length (now (block .entry))) r × FlowingTurn end r × ((at : ℕ) (st : State) → Shows (u .last) (now (block .entry)) at p (now (scratch .entry)) st →
+        ShowsTurn (u .last) (now (block .entry)) at r (now (scratch .exit)) (valueTurn (rulesOf u) (byCode (p .running) known .holds) st from (partOf (now (block .entry)) from end))) ⌝ }
+{
+    let running = p.running;
+    let line = &block[from..end];
+    let to = from + uncommented(line);
+    match running {
+        0 => Turn::Go(p),
+        1 => text_turn(from, end, p),
+        3 => text_turn(from, end, p),
+        4 => text_turn(from, end, p),
+        2 => version_turn(&block[from..to], p),
+        5 => formula_turn(block, from, to, u.last, p),
+        12 => id_turn(&block[from..to], p),
+        13 => end_turn(block, from, to, u, p, scratch),
+        _ => list_turn(&block[from..to], running, u.last, p, scratch),
+    }
+}
+
+// A further line of the record that runs: "a further row is refused 9"; 17 "a line with a non-blank byte after END".
+fn further_turn(
+    block: &[u8],
+    at: usize,
+    end: usize,
+    u: Rules,
+    p: Progress,
+    scratch: &mut [u32],
+) -> Turn
+    requires { ⌜ (length (now scratch) ≡ 2960) × Bounded (length (now block)) p × Flowing at p × (at ≤ end) × (end ≤ length (now block)) × Ruled u ⌝ }
+    ensures { λ r. ⌜ (length (now (scratch .exit)) ≡ 2960) × BoundedTurn (length (now (block .entry))) r × FlowingTurn end r × ((st : State) → Shows (u .last) (now (block .entry)) at p (now (scratch .entry)) st →
+        ShowsTurn (u .last) (now (block .entry)) at r (now (scratch .exit)) (furtherTurn (rulesOf u) (st .running) st (partOf (now (block .entry)) at end))) ⌝ }
+{
+    let running = p.running;
+    let line = &block[at..end];
+    let to = at + uncommented(line);
+    match running {
+        0 => Turn::Go(p),
+        1 => {
+            let title = p.title;
+            text_turn(title.from, end, p)
+        }
+        3 => {
+            let origin = p.origin;
+            text_turn(origin.from, end, p)
+        }
+        4 => {
+            let owner = p.owner;
+            text_turn(owner.from, end, p)
+        }
+        2 => blank_or(&block[at..to], 9, p),
+        5 => blank_or(&block[at..to], 9, p),
+        12 => blank_or(&block[at..to], 9, p),
+        13 => blank_or(line, 17, p),
+        _ => list_turn(&block[at..to], running, u.last, p, scratch),
+    }
+}
+
+// A line where nothing may stand; a byte that is no gap is refused with the number.
+fn blank_or(line: &[u8], number: u32, p: Progress) -> Turn
+    ensures { λ r. ⌜ KeptTurn p r × ((k : ℕ) (block : Bytes) (at : ℕ) (t : List ℕ) (st : State) → Shows k block at p t st →
+        ShowsTurn k block at r t (blankOr number st (now (line .entry)))) ⌝ }
+{
+    if blank(line) {
+        return Turn::Go(p);
+    }
+    Turn::Stop(number)
+}
+
+// A label line, its value from `from` on: 6 "known label repeated or out of order"; on a line after END 17.
+fn label_turn(
+    block: &[u8],
+    from: usize,
+    end: usize,
+    code: u8,
+    u: Rules,
+    p: Progress,
+    scratch: &mut [u32],
+) -> Turn
+    requires { ⌜ (length (now scratch) ≡ 2960) × Bounded (length (now block)) p × (from ≤ end) × (end ≤ length (now block)) × (code < 14) × Ruled u ⌝ }
+    ensures { λ r. ⌜ (length (now (scratch .exit)) ≡ 2960) × BoundedTurn (length (now (block .entry))) r × FlowingTurn end r × ((at : ℕ) (st : State) → Shows (u .last) (now (block .entry)) at p (now (scratch .entry)) st →
+        ShowsTurn (u .last) (now (block .entry)) at r (now (scratch .exit)) (labelTurn (rulesOf u) st from (byCode code known) (partOf (now (block .entry)) from end))) ⌝ }
+{
+    let index = code as usize;
+    if out_of_order(&scratch[2946..2960], p.top, index) {
+        return Turn::Stop(6);
+    }
+    if p.running == 13 {
+        return Turn::Stop(17);
+    }
+    let top = note(&mut scratch[2946..2960], p.top, index);
+    let mut next = p;
+    next.running = code as u32;
+    next.top = top;
+    value_turn(block, from, end, u, next, scratch)
+}
+
+// Whether a label line that is no TITLE line would be the first: "first line is no TITLE line".
+fn untitled(top: u32, code: u8) -> bool
+    ensures { λ r. ⌜ r ≡ (eqb top 0 && not (eqb code 1)) ⌝ }
+{
+    if top != 0 {
+        return false;
+    }
+    code != 1
+}
+
+// The line from `at` to `end`: 3 "a byte not allowed", 4 "first line is no TITLE line", 5 "label line without `=`", then its record's own tests.
+pub fn line_step(
+    block: &[u8],
+    at: usize,
+    end: usize,
+    u: Rules,
+    p: Progress,
+    scratch: &mut [u32],
+) -> Turn
+    requires { ⌜ (length (now scratch) ≡ 2960) × Bounded (length (now block)) p × Flowing at p × (at ≤ end) × (end ≤ length (now block)) × Ruled u ⌝ }
+    ensures { λ r. ⌜ (length (now (scratch .exit)) ≡ 2960) × BoundedTurn (length (now (block .entry))) r × FlowingTurn end r × ((st : State) → Shows (u .last) (now (block .entry)) at p (now (scratch .entry)) st → begun st ≡ true →
+        ShowsTurn (u .last) (now (block .entry)) at r (now (scratch .exit)) (lineStep (rulesOf u) st (partOf (now (block .entry)) at end))) ⌝ }
+{
+    let line = &block[at..end];
+    if !clean(line) {
+        return Turn::Stop(3);
+    }
+    let kind = line_kind(line);
+    match kind {
+        LineKind::Plain => {
+            if p.top == 0 {
+                return Turn::Stop(4);
+            }
+            further_turn(block, at, end, u, p, scratch)
+        }
+        LineKind::Unparted => {
+            if p.top == 0 {
+                return Turn::Stop(4);
+            }
+            Turn::Stop(5)
+        }
+        LineKind::Labelled(code, value) => {
+            if untitled(p.top, code) {
+                return Turn::Stop(4);
+            }
+            label_turn(block, at + value, end, code, u, p, scratch)
+        }
+    }
+}
