@@ -4,3 +4,4 @@ pub mod StepLaws
 pub mod NameLaws
 pub mod LabelTests
 pub mod OneAnswer
+pub mod InsideLaws
