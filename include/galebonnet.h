@@ -68,11 +68,11 @@ enum galebonnet_refusal {
     GALEBONNET_BEYOND = 32           /* place beyond the file's end */
 };
 
-/* Judges a block. Answers the refusal number times 2^32, plus the place: the first byte, counted in the block, of the line that is at fault; for 2 and 4 of an
+/* NOT YET in the library. Judges a block. Answers the refusal number times 2^32, plus the place: the first byte, counted in the block, of the line that is at fault; for 2 and 4 of an
  * empty block 0, for 16 the block's length. Accepted is 0. Never answers 1. */
 uint64_t galebonnet_check(const uint8_t *block, size_t length);
 
-/* Reads a block into a table. The answer is galebonnet_check's, or 1 * 2^32 where the table has under 3,856 numbers, and then it is untouched. On acceptance the
+/* NOT YET in the library. Reads a block into a table. The answer is galebonnet_check's, or 1 * 2^32 where the table has under 3,856 numbers, and then it is untouched. On acceptance the
  * first 3,856 numbers are the block's table; on a refusal 2 to 17 they are 0. Numbers beyond them stay as they were. */
 uint64_t galebonnet_read(const uint8_t *block, size_t length, int32_t *table, size_t numbers);
 
@@ -81,7 +81,7 @@ uint64_t galebonnet_read(const uint8_t *block, size_t length, int32_t *table, si
 uint64_t galebonnet_walk(const uint8_t *file, size_t length, size_t place);
 
 /* The name to show for a block: the start of its title times 2^32, plus its length. 0: show a stand-in (the title is empty, or the first line is no TITLE line).
- * For blocks of up to 2^32 - 1 bytes. */
+ * Of a block of 2^32 bytes or more: 0. */
 uint64_t galebonnet_name(const uint8_t *block, size_t length);
 
 #ifdef __cplusplus

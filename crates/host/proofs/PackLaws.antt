@@ -1,0 +1,48 @@
+-- The numbers of the C door from what is known of an answer: document 01, "The C host calls a check of one block". Assumes nothing.
+use Prim.Native.Nat.{ℕ, suc, _+_, _-_, _*_, _≤_, _<_}
+use mathlib.Core.Path.{_≡_, refl, sym, ap, ap₂, _∙_}
+use mathlib.Core.Bool.{true, false}
+use mathlib.Core.List.{List, [], _∷_}
+use native.Mathlib.Omega.{arith}
+use lib.ListN.{length}
+use lib.Dec.{ltb}
+use borrow.Author.Tests.{lt-ltb, le-ltb}
+use Rattle.format.specs.Bytes.{Bytes, cut}
+use Rattle.format.specs.Reading.{spanFrom}
+use Rattle.format.specs.Walking.{walkAt, titleOf, packed}
+use Rattle.scan.specs.declared.fields.Field.{Field}
+use Rattle.transfer.specs.declared.walks.Walked.{Walked}
+use Rattle.transfer.specs.Shown.{shown}
+use Rattle.transfer.specs.Texts.{titleStart, Titled}
+use Rattle.transfer.proofs.NameLaws.{title-size}
+use Rattle.host.specs.Packed.{packedWalk, packedSpan, packedTitle}
+
+-- the walk's answer, from the variant it is
+pub walk-packed : (s : Bytes) (place : ℕ) (r k : Walked) → shown r ≡ walkAt s place → r ≡ k → packedWalk (shown k) ≡ packedWalk (walkAt s place)
+walk-packed s place r k h e = ap packedWalk (ap shown (sym e) ∙ h)
+
+-- a title of some bytes
+span-some : (p : ℕ) (t : Bytes) → 0 < length t → packedSpan (spanFrom p t) ≡ packed p (length t)
+span-some p [] h = absurd (omega arith)
+span-some p (x ∷ t) h = refl
+
+span-none : (p : ℕ) (t : Bytes) → length t ≡ 0 → packedSpan (spanFrom p t) ≡ 0
+span-none p [] h = refl
+span-none p (x ∷ t) h = absurd (omega arith)
+
+pub title-long : (b : Bytes) → 4294967295 < length b → 0 ≡ packedTitle b
+unfolding packedTitle
+title-long b h = sym (rw (le-ltb (length b) 4294967296 (omega arith), packedTitle))
+
+module _ (b : Bytes) (r : Field) (short : length b ≤ 4294967295) (k : Titled b r) where
+  title-short : packedTitle b ≡ packedSpan (spanFrom (titleStart (cut b)) (titleOf (cut b)))
+  unfolding packedTitle
+  title-short = rw (lt-ltb (length b) 4294967296 (omega arith), packedTitle)
+
+  pub title-none : r .from ≡ r .to → 0 ≡ packedTitle b
+  title-none e = sym (title-short ∙ span-none _ (titleOf (cut b)) (omega (arith, title-size b [] r k)))
+
+  pub title-packed : (r .from ≡ r .to → ⊥) → r .from * 4294967296 + (r .to - r .from) ≡ packedTitle b
+  title-packed e =
+      let n : length (titleOf (cut b)) ≡ r .to - r .from = title-size b [] r k in
+      sym (title-short ∙ span-some _ (titleOf (cut b)) (omega (arith, k .order)) ∙ ap₂ packed (sym (k .start)) n)

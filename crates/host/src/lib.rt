@@ -1,0 +1,38 @@
+// The C door: document 01, "The C host calls a check of one block". Every function answers for every input; include/galebonnet.h says each answer in words. No
+// rule of the format stands here. A `&[u8]` lies in the call as a pointer and a count.
+ghost use mathlib.Core.Path.{_≡_};
+ghost use Rattle.format.specs.Walking.{walkAt};
+ghost use Rattle.host.specs.Packed.{packedWalk, packedTitle};
+use transfer::walks::Walked;
+
+// The kind times 2^32, plus the end: 1 a block, 2 a stray run; 0 finished, 31 and 32 with end 0.
+#[no_mangle]
+pub extern "C" fn galebonnet_walk(file: &[u8], place: usize) -> u64
+    ensures { λ r. ⌜ r ≡ packedWalk (walkAt (now (file .entry)) place) ⌝ }
+{
+    let walked = transfer::walks::walk(file, place);
+    match walked {
+        Walked::Block(_, end) => 4294967296 + end as u64,
+        Walked::Stray(_, end) => 8589934592 + end as u64,
+        Walked::Finished => 0,
+        Walked::Refused(number) => (number as u64) * 4294967296,
+    }
+}
+
+// The start of the title times 2^32, plus its length; 0: show the stand-in. "The name to show is a part of the block, its title, or the caller's stand-in bytes
+// where the title is empty or the first line is no TITLE line."
+#[no_mangle]
+pub extern "C" fn galebonnet_name(block: &[u8]) -> u64
+    ensures { λ r. ⌜ r ≡ packedTitle (now (block .entry)) ⌝ }
+{
+    if 4294967295 < block.len() {
+        return 0;
+    }
+    let title = transfer::names::title(block);
+    let start = title.from;
+    let end = title.to;
+    if start == end {
+        return 0;
+    }
+    (start as u64) * 4294967296 + (end - start) as u64
+}
