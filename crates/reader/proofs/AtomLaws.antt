@@ -1,22 +1,20 @@
 -- The atoms' records and the charge and radical values as they are put into the table one by one. Document 01, "The structure table". Assumes nothing.
 use Prim.Native.Nat.{ℕ, zero, suc, _+_, _-_, _*_, _≤_, _<_, _^_}
 use mathlib.Core.Path.{_≡_, refl, sym, ap, _∙_}
-use mathlib.Core.Bool.{true, false}
 use mathlib.Core.List.{List, [], _∷_, _++_}
 use native.Mathlib.Nat.{mul-suc, mul-zero}
 use native.Mathlib.Numerals.{add-one}
 use native.Mathlib.Omega.{arith}
 use borrow.Author.Needs.{sfits-of}
 use borrow.Author.Tests.{lt-ltb, le-ltb}
-use lib.ListN.{length, getD, set, drop, length-append}
-use lib.IntN.{ℤ, pos, negsuc, negℤ, _-ℤ_, +ℤ-idl}
+use lib.ListN.{length, getD, set, length-append}
+use lib.IntN.{ℤ, pos, negℤ, _-ℤ_, +ℤ-idl}
 use lib.Seq.{sets}
 use lib.Signed.{mag}
 use mir.Facts.{toZ-ofZ, toZ-pos}
 use mir.Syntax.{w32}
 use mir.Val.{SFits, toZ, ofZ}
 use Rattle.lists.specs.Lists.{filled}
-use Rattle.lists.proofs.PartLaws.{filled-length}
 use Rattle.lists.proofs.RegionLaws.{filled-sets}
 use Rattle.format.specs.Table.{zeros}
 use Rattle.reader.specs.Published.{signedOf, placed, copied, valueOf, valueOut, numberIn, atomOut, gathered, atomsOut}

@@ -10,18 +10,18 @@ use lib.ListN.{length, getD, drop, replicate, List·getD-append}
 use lib.IntN.{ℤ, pos, negsuc, negℤ, natAbs}
 use Rattle.lists.specs.Lists.{all, concat, flat, filled, rowsFrom}
 use Rattle.lists.specs.Order.{sort}
-use Rattle.lists.proofs.ListLaws.{all-parts, all-at}
+use Rattle.lists.proofs.ListLaws.{all-at}
 use Rattle.lists.proofs.PartLaws.{concat-nil, concat-cons, flat-nil, flat-cons, filled-is}
 use Rattle.lists.proofs.RegionLaws.{rows-zero, rows-suc, flat-cell}
 use Rattle.lists.proofs.SortLaws.{sort-length, sort-all}
 use Rattle.format.specs.Bytes.{isIn}
-use Rattle.format.specs.Labels.{ListOf, Charges, Radicals}
+use Rattle.format.specs.Labels.{Charges, Radicals}
 use Rattle.format.specs.Rows.{Row, row}
 use Rattle.format.specs.Structure.{Atom, isotopeOf, Structure, rowsOf, most, ranged, atomOk, rowBefore, rowOk}
 use Rattle.format.specs.Reading.{finished}
 use Rattle.format.specs.Table.{rowWith, atomCells, rowCells, rowsPart, width}
 use Rattle.format.proofs.ByteLaws.{within-true}
-use Rattle.format.proofs.RowLaws.{FineAtom, atom-fine}
+use Rattle.format.proofs.RowLaws.{atom-fine}
 use Rattle.reader.specs.Regions.{kindCells, kindsRegion, memberOf, membersFrom, arrived, voidOf, coded, spreadRegion, Fits}
 use Rattle.reader.specs.Published.{signedOf, copied, valueOf, valueOut, numberIn, atomOut, gathered, atomsOut, Renumbers}
 use Rattle.reader.proofs.IndexLaws.{all-every}

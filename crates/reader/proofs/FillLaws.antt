@@ -2,14 +2,12 @@
 -- table" ("unused ones are 0"). Assumes nothing.
 use Prim.Native.Nat.{ℕ, zero, suc, _+_, _*_, _/_, _%_, _≤_, _<_}
 use mathlib.Core.Path.{_≡_, refl, sym, ap, _∙_}
-use mathlib.Core.Bool.{Bool, true, false}
 use mathlib.Core.List.{List, [], _∷_, _++_, append-nil}
 use native.Mathlib.Nat.{add-zero, zero-add, suc-add, mul-suc, mul-zero, not-suc-le-zero, le-of-suc-le-suc}
 use native.Mathlib.Numerals.{add-one}
 use native.Mathlib.Omega.{arith}
-use lib.ListN.{length, getD, set, take, drop, replicate, length-append, length-replicate, length-set, drop-of-length-le}
+use lib.ListN.{length, getD, set, take, drop, length-append, length-replicate, length-set, drop-of-length-le}
 use lib.IntN.{ℤ, pos}
-use lib.Dec.{ltb}
 use lib.Seq.{sets, length-take-le}
 use mir.Facts.{toZ-pos}
 use mir.Syntax.{w32}

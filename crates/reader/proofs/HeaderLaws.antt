@@ -1,8 +1,8 @@
 -- The table's first sixteen numbers as they are put there: document 01, "The structure table" ("start and length in the block of title, origin, owner (empty: 0,
 -- 0)"; "13 to 15 are 0"). Assumes nothing.
-use Prim.Native.Nat.{ℕ, suc, _+_, _-_, _≤_, _<_}
+use Prim.Native.Nat.{ℕ, _+_, _-_, _≤_, _<_}
 use mathlib.Core.Path.{_≡_, refl, sym, ap, _∙_}
-use mathlib.Core.List.{List, [], _∷_, _++_}
+use mathlib.Core.List.{List, [], _∷_}
 use native.Mathlib.Omega.{arith}
 use lib.ListN.{length, take, drop, length-drop}
 use lib.IntN.{ℤ, pos}
@@ -10,7 +10,6 @@ use lib.Seq.{sets, length-take-le}
 use Rattle.format.specs.Bytes.{Bytes, lead, trim}
 use Rattle.format.specs.Reading.{spanFrom, spanOf}
 use Rattle.format.specs.Table.{zeros, spanCells}
-use Rattle.scan.specs.NextFields.{fieldIn}
 use Rattle.scan.specs.Trims.{Trimmed}
 use Rattle.scan.specs.declared.fields.Field.{Field}
 use Rattle.reader.specs.Progress.{partOf, proseAt, Within}

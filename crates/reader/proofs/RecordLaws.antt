@@ -7,12 +7,11 @@ use mathlib.Core.List.{List, [], _∷_, _++_, map}
 use native.Mathlib.Omega.{arith}
 use lib.ListN.{length, getD, drop, replicate}
 use lib.IntN.{ℤ, pos, negsuc, natAbs}
-use lib.Dec.{eqb, leb}
-use lib.Seq.{drop-at}
-use borrow.Author.Tests.{leb-true, eqb-true}
+use lib.Dec.{eqb}
+use borrow.Author.Tests.{eqb-true}
 use Rattle.lists.specs.Lists.{all, concat, flat, filled, rowsFrom}
 use Rattle.lists.specs.Order.{sort}
-use Rattle.lists.proofs.Bools.{torn, and-parts}
+use Rattle.lists.proofs.Bools.{torn}
 use Rattle.lists.proofs.ListLaws.{all-parts, all-at}
 use Rattle.lists.proofs.PartLaws.{concat-nil, concat-cons, flat-nil, flat-cons, flat-behind, filled-is}
 use Rattle.lists.proofs.RegionLaws.{rows-zero, rows-suc}
@@ -24,7 +23,7 @@ use Rattle.format.specs.Structure.{arity, most, ranging, ranged, groupOk, rowBe
 use Rattle.format.specs.Reading.{finished}
 use Rattle.format.specs.Table.{width, rowCells, rowsPart}
 use Rattle.format.proofs.ByteLaws.{within-true}
-use Rattle.reader.specs.Regions.{keyOf, payloadOf, keyedCells, keyedRegion, Fits}
+use Rattle.reader.specs.Regions.{keyedCells, keyedRegion, Fits}
 use Rattle.reader.specs.Published.{signedOf, bondOut, centreOut, pairOut, copied}
 use Rattle.reader.proofs.FitLaws.{row-fits}
 use Rattle.reader.proofs.FillLaws.{signed-small}

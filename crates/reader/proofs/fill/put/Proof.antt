@@ -1,7 +1,4 @@
 -- `reader::fill::put` meets its contract. Assumes nothing.
-use mathlib.Core.Path.{_≡_, refl, sym, ap, _∙_}
-use mir.Syntax.{w32}
-use mir.Facts.{toZ-pos}
 use Rattle.reader.proofs.FillLaws.{stored-small, stored-large}
 use borrow.Author.Needs.{needs}
 use Rattle.reader.proofs.fill.put.Statement.{statement}
