@@ -33,7 +33,7 @@ use Rattle.reader.proofs.LineTurnLaws.{stop-shown, turn-shown, listed-a
 use Rattle.reader.proofs.StepTurnLaws.{part-length, part-drop}
 
 -- ONLY END IS OVER
-over-code : (n : ℕ) → n < 14 → over (byCode n known .holds) ≡ eqb n 13
+pub over-code : (n : ℕ) → n < 14 → over (byCode n known .holds) ≡ eqb n 13
 unfolding byCode known label lookup
 over-code zero h = refl
 over-code (suc zero) h = refl
@@ -149,7 +149,7 @@ top-low : (y : Label) (ys : List Label) → all (λ y. ltb 0 (y .low)) (y ∷ ys
 unfolding topOf
 top-low y ys h e = let q : 0 < y .low = ltb-true 0 (y .low) (all-parts (λ y. ltb 0 (y .low)) y ys h .0) in omega arith
 
-nil-top : (seen : List Label) → all (λ y. ltb 0 (y .low)) seen ≡ true → isNil seen ≡ eqb (topOf seen) 0
+pub nil-top : (seen : List Label) → all (λ y. ltb 0 (y .low)) seen ≡ true → isNil seen ≡ eqb (topOf seen) 0
 unfolding topOf
 nil-top [] h = refl
 nil-top (y ∷ ys) h = sym (ne-eqb (topOf (y ∷ ys)) 0 (top-low y ys h))

@@ -38,3 +38,4 @@ pub mod OrderingLaws
 pub mod SortedValueLaws
 pub mod LabelTurnLaws
 pub mod AtomLineLaws
+pub mod BlockLaws

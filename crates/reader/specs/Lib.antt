@@ -12,3 +12,4 @@ pub mod Published
 pub mod Members
 pub mod Lines
 pub mod Numbering
+pub mod Judging

@@ -15,3 +15,4 @@ mod fill; // fill.rt: the regions of the table
 mod header; // header.rt: the first sixteen numbers of the table
 mod records; // records.rt: the atoms of the table, charge and radical values
 mod publish; // publish.rt: the structure in the table
+mod block; // block.rt: the lines of a block in turn

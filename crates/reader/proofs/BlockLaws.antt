@@ -1,0 +1,216 @@
+-- The lines of a block in turn: what progress and scratch show of the state before a line, they show of the state behind it, and the reading goes on from there.
+-- Document 01, "Refusal numbers". Assumes nothing.
+use Prim.Native.Nat.{ℕ, _+_, _-_, _≤_, _<_}
+use mathlib.Core.Path.{_≡_, refl, sym, ap, _∙_}
+use mathlib.Core.Bool.{Bool, true, false, _||_}
+use mathlib.Core.List.{List, [], _∷_}
+use native.Mathlib.Omega.{arith}
+use lib.ListN.{length, take, drop, drop-of-length-le}
+use lib.Dec.{eqb, ltb}
+use borrow.Author.Tests.{eq-eqb, ne-eqb}
+use Rattle.lists.specs.Lists.{isNil, all, any, filled, flat}
+use Rattle.lists.specs.Order.{sort}
+use Rattle.lists.proofs.ListLaws.{all-nil, all-both}
+use Rattle.format.specs.Bytes.{Bytes, cut, lineLen, isLabel}
+use Rattle.format.specs.Labels.{ListOf, Bonds, Charges, Radicals, Centres, Pairs, Label, label, known, lookup, normal, Parts, NoEquals, Parted, parts, partsLine, Line, Plain, Unparted, Labelled, lineOf}
+use Rattle.format.specs.Formula.{frun, formulaShape}
+use Rattle.format.specs.Structure.{rowsOf, most, atomOk}
+use Rattle.format.specs.Reading.{Rules, State, noted, past, over, lineStep, Refused, ending, readLines, start}
+use Rattle.format.specs.Reading.{Go as going, Stop as stopping, Turn as Turned}
+use Rattle.format.proofs.AcceptedLaws.{lookup-passes}
+use Rattle.format.proofs.CutLaws.{cut-at, cut-nil}
+use Rattle.format.proofs.ReadingLaws.{read-go, read-stop, read-end, Went, further, started, step-went}
+use Rattle.scan.specs.Cuts.{LineEnd}
+use Rattle.scan.specs.ShownLines.{byCode}
+use Rattle.reader.specs.Regions.{kindsRegion, memberOf, membersFrom, arrived, voidOf, spreadRegion, keyedRegion, seenFrom, topOf}
+use Rattle.reader.specs.Progress.{rulesOf, partOf, laid, Within, Bounded, BoundedTurn, Flowing, FlowingTurn, Listed, entryFine}
+use Rattle.reader.specs.Shows.{Shows, ShowsTurn}
+use Rattle.reader.specs.Lines.{begun}
+use Rattle.reader.specs.Judging.{Stands, unreadYet}
+use Rattle.reader.specs.declared.progress.Progress.{Progress}
+use Rattle.reader.specs.declared.progress.Rules.{Rules as Given}
+use Rattle.reader.specs.declared.progress.Turn.{Turn}
+use Rattle.reader.specs.declared.progress.Turn.the-variants.{Go, Stop}
+use Rattle.reader.proofs.FitLaws.{fits-nil}
+use Rattle.reader.proofs.StepTurnLaws.{part-length}
+use Rattle.reader.proofs.LabelTurnLaws.{over-code, nil-top}
+
+-- BEFORE THE FIRST LINE
+laid-start : filled 0 2960 [] ≡ laid start
+unfolding filled laid start kindsRegion spreadRegion keyedRegion seenFrom membersFrom memberOf arrived voidOf most sort flat any
+laid-start = refl
+
+start-rows : (l : ListOf) → rowsOf l (start .body) ≡ []
+unfolding rowsOf start
+start-rows Bonds = refl
+start-rows Charges = refl
+start-rows Radicals = refl
+start-rows Centres = refl
+start-rows Pairs = refl
+
+start-listed : Listed unreadYet (start .body)
+unfolding start rowsOf
+start-listed = record {
+  atoms = refl;
+  counts = λ l. elim l [ Bonds ↦ refl | Charges ↦ refl | Radicals ↦ refl | Centres ↦ refl | Pairs ↦ refl ];
+  fits = λ l. rw (start-rows l) (fits-nil l 0);
+  id = refl;
+}
+
+pub start-shown : (k : ℕ) (block : Bytes) (t : List ℕ) → t ≡ filled 0 2960 [] → Shows k block 0 unreadYet t start
+unfolding start byCode known label lookup topOf formulaShape frun
+start-shown k block t e = record {
+  place = refl;
+  running = refl;
+  top = refl;
+  holding = record { scratch = e ∙ laid-start; texts = refl; formula = refl; formula-fine = all-nil (entryFine k); kinds = all-nil (atomOk k); listed = start-listed };
+}
+
+nothing-within : (size : ℕ) → Within size (record { from = 0; to = 0 })
+nothing-within size = record { order = omega arith; high = omega arith }
+
+pub start-bounded : (size : ℕ) → Bounded size unreadYet
+start-bounded size = record {
+  counted = record { atoms = omega arith; bonds = omega arith; charges = omega arith; radicals = omega arith; centres = omega arith; pairs = omega arith };
+  code = omega arith;
+  title = nothing-within size;
+  origin = nothing-within size;
+  owner = nothing-within size;
+  formula = nothing-within size;
+  id = omega arith;
+}
+
+pub start-flowing : Flowing 0 unreadYet
+start-flowing = record { title = λ e. absurd (omega arith); origin = λ e. absurd (omega arith); owner = λ e. absurd (omega arith) }
+
+start-begun : begun start ≡ true
+unfolding start
+start-begun = all-nil (λ (y : Label). ltb 0 (y .low))
+
+-- THE LABELS SEEN are known ones
+abbrev lowLabel : Label → Bool
+lowLabel x = eqb (x .code) 0 || ltb 0 (x .low)
+
+known-low : (n : Bytes) → lowLabel (lookup n known) ≡ true
+unfolding known all label
+known-low n = lookup-passes lowLabel n refl known refl
+
+abbrev Looked : Line → Type 0
+Looked Plain = Unit {0}
+Looked Unparted = Unit {0}
+Looked (Labelled x v) = lowLabel x ≡ true
+
+parts-looked : (p : Parts) → Looked (partsLine p)
+parts-looked NoEquals = tt
+parts-looked (Parted n v) = known-low (normal n)
+
+line-looked : (l : Bytes) → Looked (lineOf l)
+unfolding lineOf
+line-looked l = by (isLabel l)
+  where
+    by : (b : Bool) → Looked (elim b [ true ↦ partsLine (parts (drop 2 l)) | false ↦ Plain ])
+    by true = parts-looked (parts (drop 2 l))
+    by false = tt
+
+noted-begun : (c : ℕ) (x : Label) (seen : List Label) → (eqb c 0 || ltb 0 (x .low)) ≡ true → all (λ (y : Label). ltb 0 (y .low)) seen ≡ true → all (λ (y : Label). ltb 0 (y .low)) (noted c x seen) ≡ true
+noted-begun c x seen h a = go (eqb c 0) h
+  where
+    go : (b : Bool) → (b || ltb 0 (x .low)) ≡ true → all (λ (y : Label). ltb 0 (y .low)) (elim b [ true ↦ seen | false ↦ x ∷ seen ]) ≡ true
+    go true e = a
+    go false e = all-both (λ (y : Label). ltb 0 (y .low)) x seen e a
+
+step-begun : (u : Rules) (st : State) (l : Bytes) (next : State) → lineStep u st l ≡ going next → begun st ≡ true → begun next ≡ true
+step-begun u st l next e h = by (step-went u st l next e)
+  where
+    by : Went u st l next → begun next ≡ true
+    by (further f k) = ap (all (λ (y : Label). ltb 0 (y .low))) (k .seen) ∙ h
+    by (started x v f o k) = let q : lowLabel x ≡ true = rw f at (line-looked l) in ap (all (λ (y : Label). ltb 0 (y .low))) (k .seen) ∙ noted-begun (x .code) x (st .seen) q h
+
+-- BETWEEN LINES
+pub record Going (u : Given) (block : Bytes) (at : ℕ) (p : Progress) (t : List ℕ) : Type 0 where
+  pub state : State
+  pub shows : Shows (u .last) block at p t state
+  pub noticed : begun state ≡ true
+  pub goes : readLines (rulesOf u) start (cut block) ≡ readLines (rulesOf u) state (cut (drop at block))
+
+pub going-start : (u : Given) (block : Bytes) (p : Progress) (t : List ℕ) → p ≡ unreadYet → t ≡ filled 0 2960 [] → Going u block 0 p t
+going-start u block p t q e = rw q (record { state = start; shows = start-shown (u .last) block t e; noticed = start-begun; goes = refl })
+
+-- all that holds before the first line
+pub holds-start : (u : Given) (block : Bytes) (p : Progress) (t : List ℕ) → p ≡ unreadYet → length t ≡ 2960 → t ≡ filled 0 2960 []
+    → (0 ≤ length block) × (length t ≡ 2960) × Bounded (length block) p × Flowing 0 p × Going u block 0 p t
+holds-start u block p t q l e = (omega arith, l, rw q (start-bounded (length block)), rw q start-flowing, going-start u block p t q e)
+
+pub bounded-go : (size : ℕ) (r : Turn) (q : Progress) → r ≡ Go q → BoundedTurn size r → Bounded size q
+bounded-go size r q e b = rw e at b
+
+pub flowing-go : (at : ℕ) (r : Turn) (q : Progress) → r ≡ Go q → FlowingTurn at r → Flowing at q
+flowing-go at r q e f = rw e at f
+
+past-shown : (k : ℕ) (block : Bytes) (at end : ℕ) (p : Progress) (t : List ℕ) (st : State) → at ≤ end → end ≤ length block → Shows k block at p t st → Shows k block end p t (past (partOf block at end) st)
+unfolding laid
+past-shown k block at end p t st h l s = record {
+  place = omega (arith, s .place, part-length block at end h l);
+  running = s .running;
+  top = s .top;
+  holding = record {
+    scratch = s .holding .scratch;
+    texts = s .holding .texts;
+    formula = s .holding .formula;
+    formula-fine = s .holding .formula-fine;
+    kinds = s .holding .kinds;
+    listed = s .holding .listed;
+  };
+}
+
+module _ (u : Given) (block : Bytes) (at end : ℕ) (p : Progress) (t s : List ℕ) (g : Going u block at p t) (more : at < length block) (e : LineEnd block at end) (r : Turn)
+    (sim : (st : State) → Shows (u .last) block at p t st → begun st ≡ true → ShowsTurn (u .last) block at r s (lineStep (rulesOf u) st (partOf block at end))) where
+  high : end ≤ length block
+  high = e .high (omega arith)
+
+  cut-is : cut (drop at block) ≡ partOf block at end ∷ cut (drop end block)
+  cut-is =
+      let q : lineLen (drop at block) ≡ end - at = omega (arith, e .is) in
+      cut-at block at more ∙ ap (λ (n : ℕ). take n (drop at block) ∷ cut (drop (at + lineLen (drop at block)) block)) q ∙ ap (λ (n : ℕ). partOf block at end ∷ cut (drop n block)) (sym (e .is))
+
+  on-line : readLines (rulesOf u) start (cut block) ≡ readLines (rulesOf u) (g .state) (partOf block at end ∷ cut (drop end block))
+  on-line = g .goes ∙ ap (readLines (rulesOf u) (g .state)) cut-is
+
+  pub went : (next : Progress) → r ≡ Go next → Going u block end next s
+  went next q = by (lineStep (rulesOf u) (g .state) (partOf block at end)) refl (rw q at (sim (g .state) (g .shows) (g .noticed)))
+    where
+      by : (turned : Turned) → lineStep (rulesOf u) (g .state) (partOf block at end) ≡ turned → ShowsTurn (u .last) block at (Go next) s turned → Going u block end next s
+      by (going st) f w = record {
+        state = past (partOf block at end) st;
+        shows = past-shown (u .last) block at end next s st (e .low) high w;
+        noticed = step-begun (rulesOf u) (g .state) (partOf block at end) st f (g .noticed);
+        goes = on-line ∙ read-go (rulesOf u) (g .state) st (partOf block at end) (cut (drop end block)) f;
+      }
+      by (stopping n) f w = absurd w
+
+  pub stopped : (n : ℕ) → r ≡ Stop n → readLines (rulesOf u) start (cut block) ≡ Refused n at
+  stopped n q = by (lineStep (rulesOf u) (g .state) (partOf block at end)) refl (rw q at (sim (g .state) (g .shows) (g .noticed)))
+    where
+      by : (turned : Turned) → lineStep (rulesOf u) (g .state) (partOf block at end) ≡ turned → ShowsTurn (u .last) block at (Stop n) s turned → readLines (rulesOf u) start (cut block) ≡ Refused n at
+      by (going st) f w = absurd w
+      by (stopping m) f w =
+          on-line ∙ read-stop (rulesOf u) (g .state) m (partOf block at end) (cut (drop end block)) f ∙ ap (λ (k : ℕ). Refused k (g .state .at)) (sym w) ∙ ap (Refused n) (g .shows .place)
+
+-- AT THE END
+module _ (u : Given) (block : Bytes) (at : ℕ) (p : Progress) (t : List ℕ) (g : Going u block at p t) (done : length block ≤ at) (b : Bounded (length block) p) where
+  ends : readLines (rulesOf u) start (cut block) ≡ ending (over (g .state .running)) (isNil (g .state .seen)) (g .state)
+  ends = g .goes ∙ ap (λ (s : Bytes). readLines (rulesOf u) (g .state) (cut s)) (drop-of-length-le block done) ∙ ap (readLines (rulesOf u) (g .state)) cut-nil ∙ read-end (rulesOf u) (g .state)
+
+  ends-as : (x y : Bool) → eqb (p .running) 13 ≡ x → eqb (p .top) 0 ≡ y → readLines (rulesOf u) start (cut block) ≡ ending x y (g .state)
+  ends-as x y e f =
+      ends ∙ ap (λ (z : Bool). ending z (isNil (g .state .seen)) (g .state)) (ap over (g .shows .running) ∙ over-code (p .running) (b .code) ∙ e)
+      ∙ ap (λ (z : Bool). ending x z (g .state)) (nil-top (g .state .seen) (g .noticed) ∙ ap (λ (n : ℕ). eqb n 0) (sym (g .shows .top)) ∙ f)
+
+  pub accepts : p .running ≡ 13 → Stands u block p t
+  accepts e = record { state = g .state; is = ends-as true (eqb (p .top) 0) (eq-eqb (p .running) 13 e) refl; holding = g .shows .holding; bounded = b }
+
+  pub empty-refused : (p .running ≡ 13 → ⊥) → p .top ≡ 0 → readLines (rulesOf u) start (cut block) ≡ Refused 4 0
+  empty-refused e f = ends-as false true (ne-eqb (p .running) 13 e) (eq-eqb (p .top) 0 f)
+
+  pub endless-refused : (p .running ≡ 13 → ⊥) → (p .top ≡ 0 → ⊥) → readLines (rulesOf u) start (cut block) ≡ Refused 16 at
+  endless-refused e f = ends-as false false (ne-eqb (p .running) 13 e) (ne-eqb (p .top) 0 f) ∙ ap (Refused 16) (g .shows .place)

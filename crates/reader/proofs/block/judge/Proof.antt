@@ -1,0 +1,87 @@
+-- `reader::block::judge` meets its contract. Assumes nothing.
+use Prim.Native.Nat.{_-_, _≤_}
+use mathlib.Core.Path.{_≡_, sym, _∙_}
+use native.Mathlib.Omega.{arith}
+use lib.ListN.{length}
+use borrow.Author.Needs.{needs}
+use Rattle.reader.specs.Progress.{Bounded, Flowing}
+use Rattle.reader.proofs.BlockLaws.{Going, holds-start, bounded-go, flowing-go, went, stopped, accepts, empty-refused, endless-refused}
+use Rattle.reader.proofs.block.judge.Statement.{statement}
+use Rattle.reader.proofs.block.judge.Tie as tie
+
+abbrev Inv-loop : tie.InvT-loop
+Inv-loop block u t₀ p₀ at₀ t p at = (at ≤ length block) × (length t ≡ 2960) × Bounded (length block) p × Flowing at p × Going u block at p t
+
+abbrev μ-loop : tie.MeasureT-loop
+μ-loop block u t₀ p₀ at₀ t p at = length block - at
+
+unread-requires : tie.Need-unread-requires Inv-loop μ-loop
+unread-requires c κs = search needs
+
+loop-holds : tie.Need-loop-holds Inv-loop μ-loop
+loop-holds c = holds-start (c .before .before .before .args .u) (c .before .before .before .args .block .now) (c .unread .result) (c .before .before .before .args .scratch .now) (c .unread .ensures) (c .before .before .before .pre .0) (c .before .before .before .pre .1)
+
+line-end-requires : tie.Need-line-end-requires Inv-loop μ-loop
+line-end-requires c κs = search needs
+
+line-step-requires : tie.Need-line-step-requires Inv-loop μ-loop
+line-step-requires c κs = (c .before .before .before .loop .inv .1, c .before .before .before .loop .inv .2, c .before .before .before .loop .inv .3, c .before .line-end .ensures .low, c .before .line-end .ensures .high (c .before .before .before .loop .inv .0), c .before .before .before .before .before .before .before .pre .2)
+
+enum-known-next : tie.Need-enum-known-next Inv-loop μ-loop
+enum-known-next c = search needs
+
+enum-known-number : tie.Need-enum-known-number Inv-loop μ-loop
+enum-known-number c = search needs
+
+same-length : tie.Need-same-length Inv-loop μ-loop
+same-length c = c .before .before .before .before .before .line-step .ensures .0 ∙ sym (c .before .before .before .before .before .before .before .before .before .before .before .before .before .pre .0)
+
+returns : tie.Need-returns Inv-loop μ-loop
+returns c = (c .before .before .before .before .before .line-step .ensures .0, stopped (c .before .before .before .before .before .before .before .before .before .before .before .before .before .args .u) (c .before .before .before .before .before .before .before .before .before .before .before .before .before .args .block .now) (c .before .before .before .before .before .before .before .before .before .loop .at) (c .before .before .before .before .before .before .before .line-end .result) (c .before .before .before .before .before .before .before .before .before .loop .p) (c .before .before .before .before .before .before .before .before .before .loop .scratch) (c .before .before .before .before .before .line-step .last .1 .1 .1 .1 .1 .0) (c .before .before .before .before .before .before .before .before .before .loop .inv .4) (c .before .before .before .before .before .before .before .before .loop-test .taken) (c .before .before .before .before .before .before .before .line-end .ensures) (c .before .before .before .before .before .line-step .result) (c .before .before .before .before .before .line-step .ensures .3) _ (c .before .number .given .1))
+
+loop-less : tie.Need-loop-less Inv-loop μ-loop
+loop-less c = omega (arith, c .before .before .before .before .before .before .before .line-end .ensures .more (c .before .before .before .before .before .before .before .before .loop-test .taken), c .before .before .before .before .before .before .before .line-end .ensures .high (c .before .before .before .before .before .before .before .before .before .loop .inv .0))
+
+loop-again : tie.Need-loop-again Inv-loop μ-loop
+loop-again c = (c .before .before .before .before .before .before .before .line-end .ensures .high (c .before .before .before .before .before .before .before .before .before .loop .inv .0), c .before .before .before .before .before .line-step .ensures .0, bounded-go _ (c .before .before .before .before .before .line-step .result) _ (c .before .next .given .1) (c .before .before .before .before .before .line-step .ensures .1), flowing-go _ (c .before .before .before .before .before .line-step .result) _ (c .before .next .given .1) (c .before .before .before .before .before .line-step .ensures .2), went (c .before .before .before .before .before .before .before .before .before .before .before .before .before .args .u) (c .before .before .before .before .before .before .before .before .before .before .before .before .before .args .block .now) (c .before .before .before .before .before .before .before .before .before .loop .at) (c .before .before .before .before .before .before .before .line-end .result) (c .before .before .before .before .before .before .before .before .before .loop .p) (c .before .before .before .before .before .before .before .before .before .loop .scratch) (c .before .before .before .before .before .line-step .last .1 .1 .1 .1 .1 .0) (c .before .before .before .before .before .before .before .before .before .loop .inv .4) (c .before .before .before .before .before .before .before .before .loop-test .taken) (c .before .before .before .before .before .before .before .line-end .ensures) (c .before .before .before .before .before .line-step .result) (c .before .before .before .before .before .line-step .ensures .3) _ (c .before .next .given .1))
+
+same-length-2 : tie.Need-same-length-2 Inv-loop μ-loop
+same-length-2 c = c .before .before .before .loop .inv .1 ∙ sym (c .before .before .before .before .before .before .before .pre .0)
+
+returns-2 : tie.Need-returns-2 Inv-loop μ-loop
+returns-2 c = (c .before .before .before .loop .inv .1, accepts (c .before .before .before .before .before .before .before .args .u) (c .before .before .before .before .before .before .before .args .block .now) (c .before .before .before .loop .at) (c .before .before .before .loop .p) (c .before .before .before .loop .scratch) (c .before .before .before .loop .inv .4) (c .before .before .loop-test .left) (c .before .before .before .loop .inv .2) (c .if1 .taken))
+
+same-length-3 : tie.Need-same-length-3 Inv-loop μ-loop
+same-length-3 c = c .before .before .before .before .before .loop .inv .1 ∙ sym (c .before .before .before .before .before .before .before .before .before .pre .0)
+
+returns-3 : tie.Need-returns-3 Inv-loop μ-loop
+returns-3 c = (c .before .before .before .before .before .loop .inv .1, empty-refused (c .before .before .before .before .before .before .before .before .before .args .u) (c .before .before .before .before .before .before .before .before .before .args .block .now) (c .before .before .before .before .before .loop .at) (c .before .before .before .before .before .loop .p) (c .before .before .before .before .before .loop .scratch) (c .before .before .before .before .before .loop .inv .4) (c .before .before .before .before .loop-test .left) (c .before .before .before .before .before .loop .inv .2) (c .before .before .if1 .left) (c .if2 .taken))
+
+same-length-4 : tie.Need-same-length-4 Inv-loop μ-loop
+same-length-4 c = c .before .before .before .before .before .loop .inv .1 ∙ sym (c .before .before .before .before .before .before .before .before .before .pre .0)
+
+returns-4 : tie.Need-returns-4 Inv-loop μ-loop
+returns-4 c = (c .before .before .before .before .before .loop .inv .1, endless-refused (c .before .before .before .before .before .before .before .before .before .args .u) (c .before .before .before .before .before .before .before .before .before .args .block .now) (c .before .before .before .before .before .loop .at) (c .before .before .before .before .before .loop .p) (c .before .before .before .before .before .loop .scratch) (c .before .before .before .before .before .loop .inv .4) (c .before .before .before .before .loop-test .left) (c .before .before .before .before .before .loop .inv .2) (c .before .before .if1 .left) (c .if2 .left))
+
+pub judge-spec : {M : Type 1} → statement M
+judge-spec =
+    tie.close
+    (tie.spec
+    Inv-loop
+    μ-loop
+    unread-requires
+    loop-holds
+    line-end-requires
+    line-step-requires
+    enum-known-next
+    enum-known-number
+    same-length
+    returns
+    loop-less
+    loop-again
+    same-length-2
+    returns-2
+    same-length-3
+    returns-3
+    same-length-4
+    returns-4)

@@ -1,0 +1,10 @@
+-- `reader::block::unread` meets its contract. Assumes nothing.
+use mathlib.Core.Path.{refl}
+use Rattle.reader.proofs.block.unread.Statement.{statement}
+use Rattle.reader.proofs.block.unread.Tie as tie
+
+returns : tie.Need-returns
+returns c = refl
+
+pub unread-spec : {M : Type 1} → statement M
+unread-spec = tie.close (tie.spec returns)

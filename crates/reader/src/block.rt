@@ -1,0 +1,69 @@
+// The lines of a block in turn: document 01, "Refusal numbers".
+ghost use mathlib.Core.Path.{_≡_};
+ghost use mathlib.Core.List.{[]};
+ghost use lib.ListN.{length};
+ghost use Rattle.lists.specs.Lists.{filled};
+ghost use Rattle.reader.specs.Lines.{Ruled};
+ghost use Rattle.reader.specs.Judging.{ShowsJudged, unreadYet};
+use crate::line::line_step;
+use crate::progress::Part;
+use crate::progress::Progress;
+use crate::progress::Rules;
+use crate::progress::Turn;
+use scan::lines::line_end;
+
+// A block's judgement: what is known at its end, or the refusal's number and place.
+pub enum Judged {
+    Accepted(Progress),
+    Refused(u32, usize),
+}
+
+// What is known before the first line: no record runs, no label was seen, no list has a row.
+fn unread() -> Progress
+    ensures { λ r. ⌜ r ≡ unreadYet ⌝ }
+{
+    let nothing = Part { from: 0, to: 0 };
+    Progress {
+        running: 0,
+        top: 0,
+        title: nothing,
+        origin: nothing,
+        owner: nothing,
+        formula: nothing,
+        atoms: 0,
+        bonds: 0,
+        charges: 0,
+        radicals: 0,
+        centres: 0,
+        pairs: 0,
+        id: 0,
+    }
+}
+
+// Judges a block; the scratch lent is all zeros. "The earliest line that breaks a rule decides"; 4 "or the block is empty"; 16 "no END line", its place the block's length.
+pub fn judge(block: &[u8], u: Rules, scratch: &mut [u32]) -> Judged
+    requires { ⌜ (length (now scratch) ≡ 2960) × (now scratch ≡ filled 0 2960 []) × Ruled u ⌝ }
+    ensures { λ r. ⌜ (length (now (scratch .exit)) ≡ 2960) × ShowsJudged u (now (block .entry)) (now (scratch .exit)) r ⌝ }
+{
+    let mut p = unread();
+    let mut at = 0;
+    while at < block.len() {
+        let end = line_end(block, at);
+        match line_step(block, at, end, u, p, scratch) {
+            Turn::Go(next) => {
+                p = next;
+            }
+            Turn::Stop(number) => {
+                return Judged::Refused(number, at);
+            }
+        }
+        at = end;
+    }
+    if p.running == 13 {
+        return Judged::Accepted(p);
+    }
+    if p.top == 0 {
+        return Judged::Refused(4, 0);
+    }
+    Judged::Refused(16, at)
+}
