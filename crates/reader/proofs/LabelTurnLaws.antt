@@ -22,7 +22,7 @@ use Rattle.scan.specs.declared.labels.LineKind.the-variants as K
 use Rattle.reader.specs.Regions.{seenFrom, topOf}
 use Rattle.reader.specs.Progress.{rulesOf, partOf, laid, Bounded, BoundedTurn, FlowingTurn}
 use Rattle.reader.specs.Shows.{Shows, ShowsTurn}
-use Rattle.reader.specs.Lines.{labelTurn, begun}
+use Rattle.reader.specs.Lines.{altered, labelTurn, begun}
 use Rattle.reader.specs.declared.progress.Progress.{Progress}
 use Rattle.reader.specs.declared.progress.Rules.{Rules as Given}
 use Rattle.reader.specs.declared.progress.Turn.{Turn}
@@ -53,21 +53,7 @@ over-code (suc (suc (suc (suc (suc (suc (suc (suc (suc (suc (suc (suc (suc (suc 
 
 -- THE LABEL NOTED
 abbrev pub withLabel : (code top : ℕ) → Progress → Progress
-withLabel code top p = record {
-  running = code;
-  top = top;
-  title = p .title;
-  origin = p .origin;
-  owner = p .owner;
-  formula = p .formula;
-  atoms = p .atoms;
-  bonds = p .bonds;
-  charges = p .charges;
-  radicals = p .radicals;
-  centres = p .centres;
-  pairs = p .pairs;
-  id = p .id;
-}
+withLabel code top p = altered code top (p .title) (p .origin) (p .owner) (p .formula) (p .atoms) (p .id) p
 
 pub label-bounded : (size code top : ℕ) (p : Progress) → code < 14 → Bounded size p → Bounded size (withLabel code top p)
 label-bounded size code top p h b = record {

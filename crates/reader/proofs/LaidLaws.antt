@@ -1,6 +1,6 @@
 -- The scratch as its seven regions: where each stands, and the scratch with one of them replaced is that of the state with that list replaced. Serves document
 -- 01, "Rows". Assumes nothing.
-use Prim.Native.Nat.{ℕ, zero, suc, _+_, _*_, _≤_}
+use Prim.Native.Nat.{ℕ, _+_, _*_, _≤_}
 use mathlib.Core.Path.{_≡_, refl, sym, ap, _∙_}
 use mathlib.Core.Bool.{true}
 use mathlib.Core.List.{List, [], _∷_, _++_, append-nil, append-assoc}
@@ -17,10 +17,12 @@ use Rattle.format.specs.Labels.{ListOf, Bonds, Charges, Radicals, Centres, Pair
 use Rattle.format.specs.Rows.{Row}
 use Rattle.format.specs.Structure.{Atom, rowsOf, most, rowBefore}
 use Rattle.format.specs.Reading.{State, withBody, withAtoms, withRows}
-use Rattle.reader.specs.Regions.{kindCells, kindsRegion, membersFrom, arrived, voidOf, coded, spreadRegion, keyedCells, keyedRegion, seenFrom}
+use Rattle.reader.specs.Regions.{kindCells, kindsRegion, membersFrom, arrived, voidOf, spreadRegion, keyedCells, keyedRegion, seenFrom}
 use Rattle.reader.specs.Progress.{laid, Counted, Listed, countOf}
 use Rattle.reader.specs.declared.progress.Progress.{Progress}
 use Rattle.reader.proofs.SeenLaws.{seen-length}
+use Rattle.reader.proofs.PlaceLaws.{arrived-length}
+use Rattle.reader.proofs.SpreadLaws.{members-length}
 
 -- A REGION'S SEAT: what stands there, and what the whole is with another list there
 pub record Seated (t : List ℕ) (from size : ℕ) (region : List ℕ) (put : List ℕ → List ℕ) : Type 0 where
@@ -98,21 +100,11 @@ pub kinds-long : (listed : List Atom) → length listed ≤ 256 → length (kind
 unfolding kindsRegion
 kinds-long listed h = rows-long 3 768 kindCells listed (λ x. refl) (omega arith)
 
-members-long : (k n : ℕ) (rs : List Row) → length (membersFrom k n rs) ≡ k
-unfolding membersFrom
-members-long zero n rs = refl
-members-long (suc k) n rs = ap suc (members-long k (suc n) rs)
-
-arrived-long : (rs : List Row) → length (arrived rs) ≡ length rs
-unfolding arrived
-arrived-long [] = refl
-arrived-long (r ∷ rs) = length-append (arrived rs) (coded (r .value) ∷ []) ∙ omega (arith, arrived-long rs)
-
 pub spread-long : (rs : List Row) → length rs ≤ 64 → length (spreadRegion rs) ≡ 321
 unfolding spreadRegion
 spread-long rs h =
     length-append (membersFrom 256 1 rs) (filled 0 64 (arrived rs) ++ (voidOf rs ∷ []))
-    ∙ omega (arith, members-long 256 1 rs, length-append (filled 0 64 (arrived rs)) (voidOf rs ∷ []), filled-length 0 64 (arrived rs) (omega (arith, arrived-long rs)))
+    ∙ omega (arith, members-length 256 1 rs, length-append (filled 0 64 (arrived rs)) (voidOf rs ∷ []), filled-length 0 64 (arrived rs) (omega (arith, arrived-length rs)))
 
 pub keyed-long : (l : ListOf) (rs : List Row) → length rs ≤ most l → length (keyedRegion l rs) ≡ 2 * most l
 unfolding keyedRegion

@@ -24,7 +24,7 @@ use Rattle.reader.specs.Regions.{kindsRegion, seenFrom, Fits}
 use Rattle.reader.specs.Progress.{rulesOf, partOf, countOf, entriesFrom, formulaAt, laid, Counted, Bounded, Listed, entryFine}
 use Rattle.reader.specs.Shows.{Shows, ShowsTurn}
 use Rattle.reader.specs.Values.{ShowsId}
-use Rattle.reader.specs.Lines.{listLine, withTexts, textPut}
+use Rattle.reader.specs.Lines.{altered, listLine, withTexts, textPut}
 use Rattle.reader.specs.declared.progress.Part.{Part}
 use Rattle.reader.specs.declared.progress.Progress.{Progress}
 use Rattle.reader.specs.declared.progress.Rules.{Rules as Given}
@@ -68,21 +68,7 @@ module _ (n : ℕ) (st : State) (l : Bytes) (b : Bool) (e : b ≡ all gap l) whe
 
 -- BLOCK_ID
 abbrev pub withNumber : ℕ → Progress → Progress
-withNumber n p = record {
-  running = p .running;
-  top = p .top;
-  title = p .title;
-  origin = p .origin;
-  owner = p .owner;
-  formula = p .formula;
-  atoms = p .atoms;
-  bonds = p .bonds;
-  charges = p .charges;
-  radicals = p .radicals;
-  centres = p .centres;
-  pairs = p .pairs;
-  id = n;
-}
+withNumber n p = altered (p .running) (p .top) (p .title) (p .origin) (p .owner) (p .formula) (p .atoms) n p
 
 pub counted-as : (p q : Progress) → Counted p → q .atoms ≡ p .atoms → q .bonds ≡ p .bonds → q .charges ≡ p .charges → q .radicals ≡ p .radicals → q .centres ≡ p .centres → q .pairs ≡ p .pairs → Counted q
 counted-as p q h a b c r s t = record { atoms = rw a (h .atoms); bonds = rw b (h .bonds); charges = rw c (h .charges); radicals = rw r (h .radicals); centres = rw s (h .centres); pairs = rw t (h .pairs) }
@@ -136,21 +122,7 @@ id-shown n k block at p t st h = record {
 
 -- MOLFORM
 abbrev pub withPart : Part → Progress → Progress
-withPart x p = record {
-  running = p .running;
-  top = p .top;
-  title = p .title;
-  origin = p .origin;
-  owner = p .owner;
-  formula = x;
-  atoms = p .atoms;
-  bonds = p .bonds;
-  charges = p .charges;
-  radicals = p .radicals;
-  centres = p .centres;
-  pairs = p .pairs;
-  id = p .id;
-}
+withPart x p = altered (p .running) (p .top) (p .title) (p .origin) (p .owner) x (p .atoms) (p .id) p
 
 turn-refused : (n : ℕ) (t : Turned) → (n ≡ 0 → ⊥) → turnOf n t ≡ stopping n
 turn-refused zero t h = absurd (h refl)

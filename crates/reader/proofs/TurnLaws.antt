@@ -21,6 +21,7 @@ use Rattle.reader.specs.Regions.{Fits, kindsRegion}
 use Rattle.reader.specs.Shown.{ShowsAfter}
 use Rattle.reader.specs.Progress.{laid, Counted, CountedTurn, Listed, countOf}
 use Rattle.reader.specs.Shows.{Shows, ShowsTurn}
+use Rattle.reader.specs.Lines.{altered}
 use Rattle.reader.specs.declared.progress.Progress.{Progress}
 use Rattle.reader.specs.declared.progress.Turn.{Turn}
 use Rattle.reader.specs.declared.progress.Turn.the-variants.{Go, Stop}
@@ -67,31 +68,11 @@ counted-kept Pairs c p h k = record { atoms = h .atoms; bonds = h .bonds; charge
 rows-kept : (P : ListOf → List Row → ℕ → Type 0) (l : ListOf) (rs : List Row) (c : ℕ) (s : Structure) (p : Progress) → P l rs c → ((m : ListOf) → P m (rowsOf m s) (countOf m p))
     → (m : ListOf) → P m (rowsOf m (withRows l rs s)) (countOf m (withCount l c p))
 unfolding rowsOf withRows
-rows-kept P Bonds rs c s p new old Bonds = new
-rows-kept P Bonds rs c s p new old Charges = old Charges
-rows-kept P Bonds rs c s p new old Radicals = old Radicals
-rows-kept P Bonds rs c s p new old Centres = old Centres
-rows-kept P Bonds rs c s p new old Pairs = old Pairs
-rows-kept P Charges rs c s p new old Bonds = old Bonds
-rows-kept P Charges rs c s p new old Charges = new
-rows-kept P Charges rs c s p new old Radicals = old Radicals
-rows-kept P Charges rs c s p new old Centres = old Centres
-rows-kept P Charges rs c s p new old Pairs = old Pairs
-rows-kept P Radicals rs c s p new old Bonds = old Bonds
-rows-kept P Radicals rs c s p new old Charges = old Charges
-rows-kept P Radicals rs c s p new old Radicals = new
-rows-kept P Radicals rs c s p new old Centres = old Centres
-rows-kept P Radicals rs c s p new old Pairs = old Pairs
-rows-kept P Centres rs c s p new old Bonds = old Bonds
-rows-kept P Centres rs c s p new old Charges = old Charges
-rows-kept P Centres rs c s p new old Radicals = old Radicals
-rows-kept P Centres rs c s p new old Centres = new
-rows-kept P Centres rs c s p new old Pairs = old Pairs
-rows-kept P Pairs rs c s p new old Bonds = old Bonds
-rows-kept P Pairs rs c s p new old Charges = old Charges
-rows-kept P Pairs rs c s p new old Radicals = old Radicals
-rows-kept P Pairs rs c s p new old Centres = old Centres
-rows-kept P Pairs rs c s p new old Pairs = new
+rows-kept P Bonds rs c s p new old m = elim m [ Bonds ↦ new | Charges ↦ old Charges | Radicals ↦ old Radicals | Centres ↦ old Centres | Pairs ↦ old Pairs ]
+rows-kept P Charges rs c s p new old m = elim m [ Bonds ↦ old Bonds | Charges ↦ new | Radicals ↦ old Radicals | Centres ↦ old Centres | Pairs ↦ old Pairs ]
+rows-kept P Radicals rs c s p new old m = elim m [ Bonds ↦ old Bonds | Charges ↦ old Charges | Radicals ↦ new | Centres ↦ old Centres | Pairs ↦ old Pairs ]
+rows-kept P Centres rs c s p new old m = elim m [ Bonds ↦ old Bonds | Charges ↦ old Charges | Radicals ↦ old Radicals | Centres ↦ new | Pairs ↦ old Pairs ]
+rows-kept P Pairs rs c s p new old m = elim m [ Bonds ↦ old Bonds | Charges ↦ old Charges | Radicals ↦ old Radicals | Centres ↦ old Centres | Pairs ↦ new ]
 
 -- the other parts of the structure stay
 rows-atoms : (l : ListOf) (rs : List Row) (s : Structure) → withRows l rs s .atoms ≡ s .atoms
@@ -181,21 +162,7 @@ module _ (l : ListOf) (p : Progress) (t region : List ℕ) (fs : List Bytes) (r 
 
 -- THE ATOMS
 abbrev pub withAtomCount : ℕ → Progress → Progress
-withAtomCount c p = record {
-  running = p .running;
-  top = p .top;
-  title = p .title;
-  origin = p .origin;
-  owner = p .owner;
-  formula = p .formula;
-  atoms = c;
-  bonds = p .bonds;
-  charges = p .charges;
-  radicals = p .radicals;
-  centres = p .centres;
-  pairs = p .pairs;
-  id = p .id;
-}
+withAtomCount c p = altered (p .running) (p .top) (p .title) (p .origin) (p .owner) (p .formula) c (p .id) p
 
 abbrev pub afterAtom : Progress → RowAfter → Turn
 afterAtom p (R.Kept c) = Go (withAtomCount c p)

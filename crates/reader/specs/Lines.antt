@@ -43,24 +43,28 @@ abbrev pub SameRunning : Progress → Answered → Type 0
 SameRunning p (A.Go q) = q .running ≡ p .running
 SameRunning p (A.Stop n) = Unit {0}
 
--- the running text is the part x: the title where the code is 1, the origin where it is 3, else the owner
-abbrev pub withTexts : (title origin owner : Part) → Progress → Progress
-withTexts title origin owner p = record {
-  running = p .running;
-  top = p .top;
+-- the same counts of rows, all else as given
+abbrev pub altered : (running top : ℕ) (title origin owner formula : Part) (atoms id : ℕ) → Progress → Progress
+altered running top title origin owner formula atoms id p = record {
+  running = running;
+  top = top;
   title = title;
   origin = origin;
   owner = owner;
-  formula = p .formula;
-  atoms = p .atoms;
+  formula = formula;
+  atoms = atoms;
   bonds = p .bonds;
   charges = p .charges;
   radicals = p .radicals;
   centres = p .centres;
   pairs = p .pairs;
-  id = p .id;
+  id = id;
 }
 
+abbrev pub withTexts : (title origin owner : Part) → Progress → Progress
+withTexts title origin owner p = altered (p .running) (p .top) title origin owner (p .formula) (p .atoms) (p .id) p
+
+-- the running text is the part x: the title where the code is 1, the origin where it is 3, else the owner
 unfoldable pub textPut : (code : ℕ) → Part → Progress → Progress
 textPut c x p =
     elim (eqb c 1) [
