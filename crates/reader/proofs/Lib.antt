@@ -39,3 +39,4 @@ pub mod SortedValueLaws
 pub mod LabelTurnLaws
 pub mod AtomLineLaws
 pub mod BlockLaws
+pub mod AnsweredLaws

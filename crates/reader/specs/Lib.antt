@@ -13,3 +13,4 @@ pub mod Members
 pub mod Lines
 pub mod Numbering
 pub mod Judging
+pub mod Answers

@@ -128,5 +128,6 @@ pub fn clear(table: &mut [i32])
     requires { ⌜ 3856 ≤ length (now table) ⌝ }
     ensures { λ _. ⌜ now (table .exit) ≡ zeros 3856 ++ drop 3856 (now (table .entry)) ⌝ }
 {
-    clear_part(&mut table[0..Table::SIZE]);
+    let end = Table::SIZE;
+    clear_part(&mut table[0..end]);
 }
