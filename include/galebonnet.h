@@ -68,11 +68,11 @@ enum galebonnet_refusal {
     GALEBONNET_BEYOND = 32           /* place beyond the file's end */
 };
 
-/* NOT YET in the library. Judges a block. Answers the refusal number times 2^32, plus the place: the first byte, counted in the block, of the line that is at fault; for 2 and 4 of an
+/* Judges a block. Answers the refusal number times 2^32, plus the place: the first byte, counted in the block, of the line that is at fault; for 2 and 4 of an
  * empty block 0, for 16 the block's length. Accepted is 0. Never answers 1. */
 uint64_t galebonnet_check(const uint8_t *block, size_t length);
 
-/* NOT YET in the library. Reads a block into a table. The answer is galebonnet_check's, or 1 * 2^32 where the table has under 3,856 numbers, and then it is untouched. On acceptance the
+/* Reads a block into a table. The answer is galebonnet_check's, or 1 * 2^32 where the table has under 3,856 numbers, and then it is untouched. On acceptance the
  * first 3,856 numbers are the block's table; on a refusal 2 to 17 they are 0. Numbers beyond them stay as they were. */
 uint64_t galebonnet_read(const uint8_t *block, size_t length, int32_t *table, size_t numbers);
 

@@ -4,22 +4,42 @@ use mathlib.Core.Path.{_≡_, refl, sym, ap, ap₂, _∙_}
 use mathlib.Core.Bool.{true, false}
 use mathlib.Core.List.{List, [], _∷_}
 use native.Mathlib.Omega.{arith}
+use lib.IntN.{ℤ}
 use lib.ListN.{length}
 use lib.Dec.{ltb}
 use borrow.Author.Tests.{lt-ltb, le-ltb}
 use Rattle.format.specs.Bytes.{Bytes, cut}
 use Rattle.format.specs.Reading.{spanFrom}
-use Rattle.format.specs.Walking.{walkAt, titleOf, packed}
+use Rattle.format.specs.Table.{ReadResult, readResult}
+use Rattle.format.specs.Walking.{walkAt, titleOf, packed, packedResult}
+use Rattle.reader.specs.declared.Answer.{Answer}
+use Rattle.reader.specs.Answers.{shownRead}
 use Rattle.scan.specs.declared.fields.Field.{Field}
 use Rattle.transfer.specs.declared.walks.Walked.{Walked}
 use Rattle.transfer.specs.Shown.{shown}
 use Rattle.transfer.specs.Texts.{titleStart, Titled}
 use Rattle.transfer.proofs.NameLaws.{title-size}
+use Rattle.host.proofs.PlaceLaws.{result-placed}
 use Rattle.host.specs.Packed.{packedWalk, packedSpan, packedTitle}
 
 -- the walk's answer, from the variant it is
 pub walk-packed : (s : Bytes) (place : ℕ) (r k : Walked) → shown r ≡ walkAt s place → r ≡ k → packedWalk (shown k) ≡ packedWalk (walkAt s place)
 walk-packed s place r k h e = ap packedWalk (ap shown (sym e) ∙ h)
+
+-- a reading's answer, from the variant it is, and the table after it
+module _ (x : ReadResult) (r k : Answer) (t : List ℤ) (h : shownRead r t ≡ x) (e : r ≡ k) where
+  pub read-packed : packedResult (shownRead k t) ≡ packedResult x
+  read-packed = ap packedResult (ap (λ (a : Answer). shownRead a t) (sym e) ∙ h)
+
+  pub read-table : shownRead k t .table ≡ x .table
+  read-table = ap (λ (y : ReadResult). y .table) (ap (λ (a : Answer). shownRead a t) (sym e) ∙ h)
+
+  read-place : shownRead k t .place ≡ x .place
+  read-place = ap (λ (y : ReadResult). y .place) (ap (λ (a : Answer). shownRead a t) (sym e) ∙ h)
+
+-- and its place fits beside the number
+pub place-fits : (n : ℕ) (b : Bytes) (before : List ℤ) (r k : Answer) (t : List ℤ) → shownRead r t ≡ readResult n b before → r ≡ k → shownRead k t .place ≤ 32768
+place-fits n b before r k t h e = omega (arith, read-place (readResult n b before) r k t h e, result-placed n b before)
 
 -- a title of some bytes
 span-some : (p : ℕ) (t : Bytes) → 0 < length t → packedSpan (spanFrom p t) ≡ packed p (length t)

@@ -1,9 +1,32 @@
 // The C door: document 01, "The C host calls a check of one block". Every function answers for every input; include/galebonnet.h says each answer in words. No
 // rule of the format stands here. A `&[u8]` lies in the call as a pointer and a count.
 ghost use mathlib.Core.Path.{_≡_};
-ghost use Rattle.format.specs.Walking.{walkAt};
+ghost use Rattle.format.specs.Table.{readResult};
+ghost use Rattle.format.specs.Walking.{checkOf, packedResult, walkAt};
 ghost use Rattle.host.specs.Packed.{packedWalk, packedTitle};
+use reader::Answer;
 use transfer::walks::Walked;
+
+// "one unsigned 64-bit number: refusal number times 2^32, plus the place; it judges as with a long enough table"
+#[no_mangle]
+pub extern "C" fn galebonnet_check(block: &[u8]) -> u64
+    ensures { λ r. ⌜ r ≡ checkOf 103 (now (block .entry)) ⌝ }
+{
+    reader::check(block)
+}
+
+// The same number, and the table filled, zeroed or untouched.
+#[no_mangle]
+pub extern "C" fn galebonnet_read(block: &[u8], table: &mut [i32]) -> u64
+    ensures answer { λ r. ⌜ r ≡ packedResult (readResult 103 (now (block .entry)) (now (table .entry))) ⌝ }
+    ensures filled { λ r. ⌜ now (table .exit) ≡ readResult 103 (now (block .entry)) (now (table .entry)) .table ⌝ }
+{
+    let answer = reader::read(block, table);
+    match answer {
+        Answer::Accepted => 0,
+        Answer::Refused(number, place) => (number as u64) * 4294967296 + place as u64,
+    }
+}
 
 // The kind times 2^32, plus the end: 1 a block, 2 a stray run; 0 finished, 31 and 32 with end 0.
 #[no_mangle]

@@ -1,0 +1,105 @@
+// The program `walk`: document 01, "Walking a transfer file". It prints for a block `B start end number place atoms bonds`, the place counted in the file, and for
+// a stray run `S start end`; `L` where there are over 65,536 bytes. The work is done by `transfer` and `reader`; this is the printing.
+ghost use Prim.Native.Nat.{_≤_, _<_};
+ghost use mathlib.Core.Path.{_≡_};
+ghost use lib.ListN.{length};
+use reader::Answer;
+use transfer::walks::Walked;
+
+// Zeros for 65,536 bytes and the one more by which a longer input is told.
+fn room() -> [u8; 65537]
+    ensures { λ r. ⌜ 65537 ≡ length r ⌝ }
+{
+    [0; 65537]
+}
+
+// A number behind a space.
+fn print_behind(n: u64) {
+    io::write_all(1, &[b' ']);
+    io::print_decimal(1, n);
+}
+
+// A count of the table behind a space; the counts of a table are not negative.
+fn print_count(table: &[i32], at: usize)
+    requires { ⌜ at < length (now table) ⌝ }
+{
+    let count = table[at];
+    if count < 0 {
+        return;
+    }
+    print_behind(count as u64);
+}
+
+// The line of a block: "`B start end number place atoms bonds`, the place counted in the file (0 if accepted)".
+fn print_block(file: &[u8], start: usize, end: usize)
+    requires { ⌜ (start ≤ end) × (end ≤ length (now file)) ⌝ }
+{
+    let mut table = [0i32; 3856];
+    let answer = reader::read(&file[start..end], &mut table);
+    io::write_all(1, &[b'B']);
+    print_behind(start as u64);
+    print_behind(end as u64);
+    print_answer(start, answer);
+    print_count(&table, 0);
+    print_count(&table, 1);
+    io::write_all(1, &[b'\n']);
+}
+
+// The number and the place of a reading. A place lies in its block, so the sum does not wrap.
+fn print_answer(start: usize, answer: Answer) {
+    match answer {
+        Answer::Accepted => {
+            print_behind(0);
+            print_behind(0);
+        }
+        Answer::Refused(number, place) => {
+            print_behind(number as u64);
+            print_behind(std::num::wrapping_add_usize(start, place) as u64);
+        }
+    }
+}
+
+// The line of a stray run: "`S start end`".
+fn print_stray(start: usize, end: usize) {
+    io::write_all(1, &[b'S']);
+    print_behind(start as u64);
+    print_behind(end as u64);
+    io::write_all(1, &[b'\n']);
+}
+
+// The line of the piece from a place on, and where it ends.
+fn print_piece(file: &[u8], place: usize) -> usize
+    requires { ⌜ place < length (now file) ⌝ }
+    ensures { λ r. ⌜ (place < r) × (r ≤ length (now (file .entry))) ⌝ }
+{
+    match transfer::walks::walk(file, place) {
+        Walked::Block(_, end) => {
+            print_block(file, place, end);
+            end
+        }
+        Walked::Stray(_, end) => {
+            print_stray(place, end);
+            end
+        }
+        Walked::Finished => file.len(),
+        Walked::Refused(_) => file.len(),
+    }
+}
+
+// The lines of a file, piece by piece.
+fn print_file(file: &[u8]) {
+    let mut place = 0;
+    while place < file.len() {
+        place = print_piece(file, place);
+    }
+}
+
+fn main() {
+    let mut bytes = room();
+    let n = io::read_full(0, &mut bytes);
+    if 65536 < n {
+        io::write_all(1, &[b'L', b'\n']);
+        return;
+    }
+    print_file(&bytes[..n]);
+}
