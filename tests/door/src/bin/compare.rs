@@ -7,7 +7,7 @@ use std::collections::BTreeMap;
 use std::env;
 use std::process::exit;
 
-use galebonnet_door as door;
+use galebonnet::door;
 use galebonnet_tests::generate::{self, Random};
 use galebonnet_tests::independent::{self, Walked};
 

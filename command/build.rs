@@ -1,7 +1,7 @@
 //! The proved library, as `rt staticlib host` writes it under target/ of the project's root.
 
 fn main() {
-    let root = std::path::Path::new(env!("CARGO_MANIFEST_DIR")).join("../..");
+    let root = std::path::Path::new(env!("CARGO_MANIFEST_DIR")).join("..");
     let library = root.join("target/staticlib");
     println!("cargo:rustc-link-search=native={}", library.display());
     println!("cargo:rustc-link-lib=static=host");

@@ -1,0 +1,53 @@
+/* A C host over the door: the pieces of a transfer file, each block with its judgement, its atoms and its title.
+ *
+ *     gcc -O2 -Iinclude examples/host.c target/staticlib/libhost.a -o target/host && target/host samples/damaged.jcs
+ */
+#include <stdio.h>
+#include <stdlib.h>
+
+#include "galebonnet.h"
+
+static uint8_t file[GALEBONNET_FILE + 1];
+
+static void show_block(const uint8_t *block, size_t length) {
+    int32_t table[GALEBONNET_TABLE];
+    uint64_t answer = galebonnet_read(block, length, table, GALEBONNET_TABLE);
+    uint64_t name = galebonnet_name(block, length);
+    const char *title = name ? (const char *)block + (name >> 32) : "?";
+    int size = name ? (int)(name & 0xffffffff) : 1;
+    printf("%.*s: ", size, title);
+    if (answer == GALEBONNET_ACCEPTED)
+        printf("%d atoms, %d bonds\n", (int)table[GALEBONNET_ATOM_COUNT], (int)table[GALEBONNET_BOND_COUNT]);
+    else
+        printf("refusal %u at %u of the block\n", (unsigned)(answer >> 32), (unsigned)(answer & 0xffffffff));
+    if (galebonnet_check(block, length) != answer) /* the two always judge alike */
+        abort();
+}
+
+int main(int count, char **words) {
+    FILE *input = count == 2 ? fopen(words[1], "rb") : NULL;
+    if (!input) {
+        fprintf(stderr, "usage: host FILE\n");
+        return 2;
+    }
+    size_t length = fread(file, 1, sizeof file, input);
+    fclose(input);
+    for (size_t place = 0;;) {
+        uint64_t piece = galebonnet_walk(file, length, place);
+        size_t end = (size_t)(piece & 0xffffffff);
+        switch (piece >> 32) {
+        case 1:
+            show_block(file + place, end - place);
+            break;
+        case 2:
+            printf("stray run of %zu bytes\n", end - place);
+            break;
+        case 0:
+            return 0;
+        default:
+            printf("refusal %u\n", (unsigned)(piece >> 32));
+            return 1;
+        }
+        place = end;
+    }
+}
