@@ -1,6 +1,7 @@
 //! The generator: blocks, tables and transfer files from a seed.
 
 pub mod blocks;
+pub mod cases;
 pub mod crowded;
 pub mod damage;
 mod damage_rows;
