@@ -1,4 +1,5 @@
--- A refusal's place lies in its block, so it fits beside the number: document 01, "Refusal numbers". Assumes nothing.
+-- What a refused reading answers: a table that is too short is untouched, and a refusal's place lies in its block, so that it fits beside the number. Document 01,
+-- "Refusal numbers". Assumes nothing.
 use Prim.Native.Nat.{ℕ, _+_, _≤_, _<_}
 use mathlib.Core.Path.{_≡_, refl, sym, ap, _∙_, subst}
 use mathlib.Core.Bool.{Bool, true, false}
@@ -7,14 +8,14 @@ use native.Mathlib.Omega.{arith}
 use lib.IntN.{ℤ}
 use lib.ListN.{length, drop}
 use lib.Dec.{ltb}
-use borrow.Author.Tests.{ltb-true, ltb-false}
+use borrow.Author.Tests.{ltb-true, ltb-false, lt-ltb, le-ltb}
 use Rattle.lists.specs.Lists.{concat, isNil}
 use Rattle.lists.proofs.PartLaws.{concat-length}
 use Rattle.format.specs.Bytes.{Bytes, cut}
 use Rattle.format.specs.Reading.{State, Rules, Turn, Go, Stop, Outcome, Accepted, Refused, Reading, Read, Unread, over, past, ending, lineStep, readLines, start, readingOf, strict, readBlock}
 use Rattle.format.specs.Table.{ReadResult, readAnswer, tableOf, readResult}
 use Rattle.format.proofs.CutLaws.{concat-cut}
 use Rattle.format.proofs.ReadingLaws.{read-go, read-stop, read-end, step-at}
 
 -- a refusal's place is at most z
 abbrev Placed : ℕ → Outcome → Type 0
@@ -54,28 +55,30 @@ told-placed t (Accepted st) h = omega arith
 told-placed t (Refused n p) h = h
 
 module _ (k : ℕ) (b : Bytes) (t : List ℤ) where
-  result-short : ltb (length t) 3856 ≡ true → readResult k b t ≡ readAnswer 1 0 t
+  -- "1: table shorter than 3,856; untouched"; and a table that is long enough
+  pub short-untouched : length t < 3856 → readResult k b t ≡ readAnswer 1 0 t
   unfolding readResult
-  result-short e = rw (e, readResult)
+  short-untouched h = rw (lt-ltb (length t) 3856 h, readResult)
 
-  result-whole : ltb (length t) 3856 ≡ false → readResult k b t ≡ tableOf (drop 3856 t) (readBlock (strict k) b)
+  pub long-read : 3856 ≤ length t → readResult k b t ≡ tableOf (drop 3856 t) (readBlock (strict k) b)
   unfolding readResult
-  result-whole e = rw (e, readResult)
+  long-read h = rw (le-ltb (length t) 3856 h, readResult)
 
-  block-long : ltb 32768 (length b) ≡ true → readBlock (strict k) b ≡ Unread 2 0
+  block-long : 32768 < length b → readBlock (strict k) b ≡ Unread 2 0
   unfolding readBlock
-  block-long e = rw (e, readBlock)
+  block-long h = rw (lt-ltb 32768 (length b) h, readBlock)
 
-  block-lines : ltb 32768 (length b) ≡ false → readBlock (strict k) b ≡ readingOf (readLines (strict k) start (cut b))
+  block-lines : length b ≤ 32768 → readBlock (strict k) b ≡ readingOf (readLines (strict k) start (cut b))
   unfolding readBlock
-  block-lines e = rw (e, readBlock)
+  block-lines h = rw (le-ltb 32768 (length b) h, readBlock)
 
   pub result-placed : readResult k b t .place ≤ 32768
   result-placed = by (ltb (length t) 3856) (ltb 32768 (length b)) refl refl
     where
       by : (short long : Bool) → ltb (length t) 3856 ≡ short → ltb 32768 (length b) ≡ long → readResult k b t .place ≤ 32768
-      by true long e h = subst (λ (x : ReadResult). x .place ≤ 32768) (sym (result-short e)) (omega arith)
-      by false true e h = subst (λ (x : ReadResult). x .place ≤ 32768) (sym (result-whole e ∙ ap (tableOf (drop 3856 t)) (block-long h))) (omega arith)
+      by true long e h = subst (λ (x : ReadResult). x .place ≤ 32768) (sym (short-untouched (ltb-true (length t) 3856 e))) (omega arith)
+      by false true e h =
+          subst (λ (x : ReadResult). x .place ≤ 32768) (sym (long-read (ltb-false (length t) 3856 e) ∙ ap (tableOf (drop 3856 t)) (block-long (ltb-true 32768 (length b) h)))) (omega arith)
       by false false e h =
-          subst (λ (x : ReadResult). x .place ≤ 32768) (sym (result-whole e ∙ ap (tableOf (drop 3856 t)) (block-lines h)))
+          subst (λ (x : ReadResult). x .place ≤ 32768) (sym (long-read (ltb-false (length t) 3856 e) ∙ ap (tableOf (drop 3856 t)) (block-lines (ltb-false 32768 (length b) h))))
           (told-placed (drop 3856 t) (readLines (strict k) start (cut b)) (block-placed (strict k) b (ltb-false 32768 (length b) h)))

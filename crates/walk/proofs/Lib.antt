@@ -1,2 +1,0 @@
--- The laws of this crate, file by file. Assumes nothing.
-pub mod SignLaws
