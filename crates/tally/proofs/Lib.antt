@@ -8,3 +8,4 @@ pub mod SearchLaws
 pub mod GapLaws
 pub mod AtomLaws
 pub mod AddLaws
+pub mod GatherLaws

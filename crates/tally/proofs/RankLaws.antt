@@ -98,6 +98,11 @@ module _ (e : ℕ) (l : 1 ≤ e) (h : e ≤ 103) where
   pub rank-high : rankOf e ≤ 103
   rank-high = omega (arith, rank-entry, leb-true (getD ranks e 0) 103 (and-parts (leb 1 (getD ranks e 0)) (leb (getD ranks e 0) 103) (behind .1) .1))
 
+-- hydrogen stands behind carbon
+pub hydrogen-rank : rankOf 1 ≡ 2
+unfolding ranks
+hydrogen-rank = sym (rank-entry 1 (omega arith) (omega arith))
+
 -- THE ORDER of the ranks is that of the symbols
 words-strict : Strict elementBefore
 words-strict = strict-by lexBefore lex-strict rank
