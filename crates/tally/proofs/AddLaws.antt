@@ -1,10 +1,10 @@
 -- One entry more in the two regions, as src/entries.rt puts it: raised where its key stands at the place, else put in there. Assumes nothing.
 use Prim.Native.Nat.{ℕ, _+_, _≤_, _<_}
-use mathlib.Core.Path.{_≡_, refl, sym, ap, ap₂, _∙_, subst}
+use mathlib.Core.Path.{_≡_, sym, ap, ap₂, _∙_, subst}
 use mathlib.Core.Bool.{Bool, true, false, _&&_}
 use mathlib.Core.List.{List, _∷_}
 use native.Mathlib.Omega.{arith}
-use lib.ListN.{length, getD, take, drop, set}
+use lib.ListN.{length, getD, take, set}
 use lib.Seq.{getD-take, length-take-le, take-set-lt}
 use lib.Dec.{eqb, ltb}
 use borrow.Author.Tests.{eqb-true, ltb-true, lt-ltb, eq-eqb}
@@ -12,8 +12,8 @@ use Rattle.lists.proofs.Bools.{torn, and-parts, and-both}
 use Rattle.lists.proofs.LexLaws.{Sides, less, equal, greater, sides}
 use Rattle.format.specs.Structure.{Entry}
 use Rattle.tally.specs.Ranks.{keyOf}
-use Rattle.tally.specs.Gathering.{Shows, KeysAscend, Between, oneMore, AddShows}
-use Rattle.tally.proofs.ShowLaws.{shows-count, shows-up, shows-raised, shows-put}
+use Rattle.tally.specs.Gathering.{Shows, KeysAscend, oneMore, AddShows}
+use Rattle.tally.proofs.ShowLaws.{shows-up, shows-raised, shows-put}
 
 -- keys that show entries ascend; what the first keys and counts are
 pub keys-up : (es : List Entry) (k c : List ℕ) (count : ℕ) → count ≤ length k → Shows es (take count k) (take count c) → KeysAscend count k

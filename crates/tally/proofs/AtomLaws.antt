@@ -1,8 +1,8 @@
 -- The atoms of a table one by one: the atoms that a table holds are those by index, and of the entries that they make, those of the atoms alone and the implied
 -- hydrogens summed beside them have the same keys and sums. Document 01: "with implied hydrogens counted as hydrogen without mass". Assumes nothing.
 use Prim.Native.Nat.{ℕ, zero, suc, _+_, _*_, _≤_, _<_}
-use mathlib.Core.Path.{_≡_, refl, sym, ap, ap₂, _∙_}
-use mathlib.Core.Bool.{Bool, true, false, _&&_}
+use mathlib.Core.Path.{_≡_, refl, sym, ap, _∙_}
+use mathlib.Core.Bool.{Bool, true, false}
 use mathlib.Core.List.{List, [], _∷_, _++_, map, map-append}
 use native.Mathlib.Nat.{min-eq-left, min-eq-right}
 use native.Mathlib.Numerals.{add-one}
@@ -11,12 +11,11 @@ use lib.ListN.{length, getD, take, drop}
 use lib.Seq.{getD-take, getD-drop}
 use lib.IntN.{ℤ, pos, natAbs}
 use lib.Dec.{eqb, ltb}
-use borrow.Author.Tests.{lt-ltb, le-ltb, ltb-true, eqb-true}
+use borrow.Author.Tests.{lt-ltb, ltb-true}
 use Rattle.lists.specs.Lists.{all, any, rowsFrom}
-use Rattle.lists.proofs.Bools.{and-parts}
 use Rattle.lists.proofs.ListLaws.{all-nil, all-parts, all-both, all-at, any-nil, any-hit, any-miss}
-use Rattle.lists.proofs.RegionLaws.{rows-zero, rows-length, rows-at, rows-append, rows-snoc}
-use Rattle.format.specs.Structure.{Isotope, isotopeOf, Atom, Entry, entry, entriesOf, atomOk}
+use Rattle.lists.proofs.RegionLaws.{rows-zero, rows-length, rows-at, rows-snoc}
+use Rattle.format.specs.Structure.{isotopeOf, Atom, Entry, entry, entriesOf, atomOk}
 use Rattle.format.specs.Table.{cell, countAt, atomAt, atomRecords, decode}
 use Rattle.format.proofs.TotalLaws.{share, entries-bare, entries-implied, entries-append, entries-counted}
 use Rattle.tally.specs.Ranks.{keyOf, fine}

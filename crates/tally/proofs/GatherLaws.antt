@@ -2,8 +2,8 @@
 -- Assumes nothing.
 use Prim.Native.Nat.{ℕ, zero, suc, _+_, _*_, _≤_, _<_}
 use mathlib.Core.Path.{_≡_, refl, sym, ap, _∙_, subst}
-use mathlib.Core.Bool.{Bool, true, false}
-use mathlib.Core.List.{List, [], _∷_, map}
+use mathlib.Core.Bool.{true}
+use mathlib.Core.List.{List, _∷_, map}
 use native.Mathlib.Numerals.{add-one}
 use native.Mathlib.Omega.{arith}
 use lib.ListN.{length, getD, take}
@@ -12,9 +12,8 @@ use lib.IntN.{ℤ}
 use Rattle.lists.specs.Lists.{all}
 use Rattle.format.specs.Structure.{isotopeOf, Atom, Entry, entry, entriesOf, atomOk}
 use Rattle.format.specs.Table.{countAt, decode}
-use Rattle.format.specs.Writing.{formulaBefore}
 use Rattle.tally.specs.Ranks.{keyOf, keyOr, fine}
-use Rattle.tally.specs.Gathering.{inFormula, Gathered, Gathers, Shows, KeysAscend, Between, AddShows, atomNo, bare, implied, withImplied}
+use Rattle.tally.specs.Gathering.{inFormula, Gathers, Shows, KeysAscend, Between, AddShows, atomNo, bare, implied, withImplied}
 use Rattle.tally.proofs.IndexLaws.{map-length}
 use Rattle.tally.proofs.RankLaws.{hydrogen-rank}
 use Rattle.tally.proofs.KeyLaws.{atom-fine, key-or, key-some, key-given}

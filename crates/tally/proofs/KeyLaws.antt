@@ -6,12 +6,11 @@ use mathlib.Core.Bool.{Bool, true, false, _&&_, _||_}
 use native.Mathlib.Omega.{arith}
 use lib.Dec.{eqb, ltb, leb}
 use borrow.Author.Tests.{leb-true, le-leb, lt-leb, lt-ltb, le-ltb, eq-eqb, ne-eqb}
-use Rattle.lists.specs.Order.{lexBefore}
 use Rattle.lists.proofs.Bools.{and-parts, and-both, and-left-false, and-right-false}
 use Rattle.lists.proofs.LexLaws.{Sides, less, equal, greater, sides}
 use Rattle.format.specs.Bytes.{within}
 use Rattle.format.specs.Structure.{Isotope, isotopeOf, sameIsotope, Atom, atomOk}
-use Rattle.format.specs.Writing.{rank, formulaBefore}
+use Rattle.format.specs.Writing.{formulaBefore}
 use Rattle.tally.specs.Ranks.{rankOf, elementOf, keyOf, fine, keyOr}
 use Rattle.tally.proofs.RankLaws.{rank-back, rank-low, rank-before, rank-equal}
 

@@ -9,3 +9,4 @@ pub mod GapLaws
 pub mod AtomLaws
 pub mod AddLaws
 pub mod GatherLaws
+pub mod EntryLaws

@@ -1,13 +1,13 @@
 -- The ranks of the elements, computed once: a rank is the place among the elements in the formula's order, of which each symbol stands before the next. So ranks
 -- order the elements as their symbols do. Document 01, "The one written form": "C, H, then by symbol, a shorter symbol before its extension". Assumes nothing.
-use Prim.Native.Nat.{ℕ, zero, suc, _+_, _≤_, _<_}
+use Prim.Native.Nat.{ℕ, zero, suc, _≤_, _<_}
 use mathlib.Core.Path.{_≡_, refl, sym, ap, ap₂, _∙_}
 use mathlib.Core.Bool.{Bool, true, false, _&&_}
 use mathlib.Core.List.{List, [], _∷_}
 use native.Mathlib.Omega.{arith}
 use lib.ListN.{length, getD, List·getD-eq-default}
 use lib.Dec.{eqb, ltb, leb}
-use borrow.Author.Tests.{eqb-true, leb-true, ltb-true, lt-ltb, le-ltb, eq-eqb, ne-eqb}
+use borrow.Author.Tests.{eqb-true, leb-true, ltb-true, lt-ltb, le-ltb, eq-eqb}
 use Rattle.lists.specs.Lists.{all}
 use Rattle.lists.specs.Order.{lexBefore, insert, sort, ascends, Strict}
 use Rattle.lists.proofs.Bools.{and-parts, both-ways}

@@ -1,25 +1,25 @@
 -- Keys and counts that show entries (Shows), with one entry more: where its key is there, its count is raised; where it is not, key and count are put to their
 -- place. Which entries they are and in what order they came does not matter, only which keys there are and what each counts. Document 01, "The one written
 -- form". Assumes nothing.
-use Prim.Native.Nat.{ℕ, zero, suc, _+_, _≤_, _<_}
+use Prim.Native.Nat.{ℕ, _+_, _≤_, _<_}
 use mathlib.Core.Path.{_≡_, refl, sym, ap, ap₂, _∙_}
 use mathlib.Core.Bool.{Bool, true, false, not, _||_}
 use mathlib.Core.List.{List, [], _∷_, _++_, map, map-append}
 use native.Mathlib.Omega.{arith}
 use lib.ListN.{length, getD, take, drop, set, length-set}
-use lib.Seq.{getD-take, length-take-le, getD-set-same, getD-set-other, ext-getD}
+use lib.Seq.{getD-set-same, getD-set-other, ext-getD}
 use lib.Dec.{eqb, ltb}
-use borrow.Author.Tests.{eqb-true, ltb-true, lt-ltb, le-ltb, eq-eqb, ne-eqb}
+use borrow.Author.Tests.{ltb-true, lt-ltb, le-ltb, ne-eqb}
 use Rattle.lists.specs.Lists.{any, span}
 use Rattle.lists.specs.Order.{insert, ascends, level}
-use Rattle.lists.proofs.Bools.{torn, eqb-same}
+use Rattle.lists.proofs.Bools.{eqb-same}
 use Rattle.lists.proofs.ListLaws.{any-nil, any-cons, any-parts}
 use Rattle.lists.proofs.PartLaws.{map-take, map-drop}
 use Rattle.lists.proofs.LexLaws.{Sides, less, equal, greater, sides, ltb-strict}
 use Rattle.lists.proofs.SortLaws.{any-perm, ascends-nil, insert-place, insert-perm, insert-ascends}
 use Rattle.format.specs.Structure.{Entry}
 use Rattle.tally.specs.Ranks.{keyOf}
-use Rattle.tally.specs.Gathering.{keyed, sumOf, Shows, KeysAscend, Between}
+use Rattle.tally.specs.Gathering.{keyed, sumOf, Shows}
 use Rattle.tally.proofs.IndexLaws.{any-index, any-nowhere, span-index, ascends-at, map-length, map-at, map-on}
 
 -- SUMS, clause by clause

@@ -1,6 +1,6 @@
 -- The formula's entries gathered as keys and counts: document 01, "The one written form". What two regions show of entries met so far, and what they hold in the
 -- end. Assumes nothing.
-use Prim.Native.Nat.{ℕ, zero, suc, _+_, _*_, _≤_, _<_}
+use Prim.Native.Nat.{ℕ, zero, suc, _+_, _*_, _/_, _%_, _≤_, _<_}
 use mathlib.Core.Path.{_≡_}
 use mathlib.Core.Bool.{Bool, true, false}
 use mathlib.Core.List.{List, [], _∷_, _++_, map}
@@ -9,10 +9,11 @@ use lib.IntN.{ℤ}
 use lib.Dec.{eqb, ltb}
 use Rattle.lists.specs.Lists.{all, any}
 use Rattle.lists.specs.Order.{sort, ascends}
+use Rattle.format.specs.Formula.{Counted, counted}
 use Rattle.format.specs.Structure.{Isotope, isotopeOf, Atom, Entry, entry, entriesOf, total, kinds, atomOk}
 use Rattle.format.specs.Table.{cell, decode}
-use Rattle.format.specs.Writing.{formulaBefore}
-use Rattle.tally.specs.Ranks.{keyOf}
+use Rattle.format.specs.Writing.{spelt, formulaBefore}
+use Rattle.tally.specs.Ranks.{elementOf, keyOf}
 
 -- THE FORMULA'S ENTRIES: the kinds in the formula's order, and what r cells of two regions hold of them
 unfoldable pub inFormula : List Atom → List Isotope
@@ -26,6 +27,10 @@ pub record Gathered (atoms : List Atom) (r : ℕ) (keys counts : List ℕ) : Typ
 -- of every table whose atoms are as a sound table has them
 abbrev pub Gathers : (table : List ℤ) (r : ℕ) (keys counts : List ℕ) → Type 0
 Gathers t r keys counts = all (atomOk 103) (decode t .atoms) ≡ true → Gathered (decode t .atoms) r keys counts
+
+-- the entry that a key and its count stand for
+unfoldable pub entryOf : (key count : ℕ) → Counted
+entryOf k n = counted (spelt (isotopeOf (elementOf (k / 512)) (k % 512))) n
 
 -- ENTRIES BY KEY: whether an entry has a key, and how many the entries with a key count together
 abbrev pub keyed : ℕ → Entry → Bool

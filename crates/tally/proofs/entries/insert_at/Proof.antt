@@ -1,6 +1,6 @@
 -- `tally::entries::insert_at` meets its contract. Assumes nothing.
 use Prim.Native.Nat.{_≤_}
-use mathlib.Core.Path.{_≡_, _∙_}
+use mathlib.Core.Path.{_≡_}
 use native.Mathlib.Omega.{arith}
 use lib.ListN.{length, length-set}
 use Rattle.tally.proofs.GapLaws.{Moved, moved-none, moved-one, put-in}
