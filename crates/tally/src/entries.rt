@@ -1,5 +1,5 @@
-// Entries by ascending key, in two lists of 257 numbers that are lent: the keys and the counts. Atoms of one kind mostly follow one another, so the place of the last one is
-// looked at first.
+// Entries by ascending key, in two lists of 257 numbers that are lent: the keys and the counts. Atoms of one kind mostly follow one another, so the place of the
+// last one is looked at first.
 ghost use mathlib.Core.Path.{_≡_};
 ghost use mathlib.Core.Bool.{_&&_};
 ghost use Prim.Native.Nat.{_+_, _≤_, _<_};
