@@ -17,4 +17,5 @@ pub mod WayBackWalk
 pub mod WayBackMembers
 pub mod WayBackDecoded
 pub mod WayBackSound
+pub mod AcceptedSteps
 pub mod Demands

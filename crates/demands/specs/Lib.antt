@@ -5,3 +5,4 @@ pub mod Neighbours
 pub mod Examples
 pub mod Stretches
 pub mod WayBack
+pub mod Accepted
