@@ -30,8 +30,12 @@ addAll f st (x ∷ xs) = addAll f (f st x) xs
 abbrev pub addAtom : (k : ℕ) → State → AtomRow → State
 addAtom k st r = withBody st (withAtoms (st .body .atoms ++ (atomOf k r ∷ [])) (st .body))
 
+abbrev pub chosen : Bool → State → State → State
+chosen true old new = old
+chosen false old new = new
+
 abbrev pub addRow : ListOf → State → Row → State
-addRow l st r = elim (any (meets l r) (rowsOf l (st .body))) [ true ↦ st | false ↦ withBody st (withRows l (r ∷ rowsOf l (st .body)) (st .body)) ]
+addRow l st r = chosen (any (meets l r) (rowsOf l (st .body))) st (withBody st (withRows l (r ∷ rowsOf l (st .body)) (st .body)))
 
 abbrev pub addFormula : (k : ℕ) → State → Option (List Counted) → State
 addFormula k st none = st
@@ -216,7 +220,7 @@ module _ (k : ℕ) (st : State) where
   atoms-gone [] = refl
   atoms-gone (f ∷ fs) = atom-gone (atomShape (f ∷ fs))
 
-  joined-gone : (again full : Bool) (new : State) → goneTo (joined again full st new) ≡ when (again || not full) (elim again [ true ↦ st | false ↦ new ])
+  joined-gone : (again full : Bool) (new : State) → goneTo (joined again full st new) ≡ when (again || not full) (chosen again st new)
   joined-gone true full new = refl
   joined-gone false true new = refl
   joined-gone false false new = refl

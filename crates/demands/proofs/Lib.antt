@@ -18,4 +18,5 @@ pub mod WayBackMembers
 pub mod WayBackDecoded
 pub mod WayBackSound
 pub mod AcceptedSteps
+pub mod AcceptedState
 pub mod Demands
