@@ -19,4 +19,5 @@ pub mod WayBackDecoded
 pub mod WayBackSound
 pub mod AcceptedSteps
 pub mod AcceptedState
+pub mod AcceptedLines
 pub mod Demands
