@@ -20,4 +20,5 @@ pub mod WayBackSound
 pub mod AcceptedSteps
 pub mod AcceptedState
 pub mod AcceptedLines
+pub mod AcceptedRows
 pub mod Demands
