@@ -172,10 +172,13 @@ module _ (k : ℕ) where
   unfolding known all label
   label-ends = label-passed ends refl refl
 
+  pub over-label : (l : Bytes) (x : Label) (v : Bytes) → lineOf l ≡ Labelled x v → over (x .holds) ≡ eqb 13 (x .code)
+  over-label l x v e = ends-same (over (x .holds)) (eqb 13 (x .code)) (label-ends l x v e)
+
   over-line : (h : Holds) (l : Bytes) → over h ≡ false → (line : Line) → lineOf l ≡ line → over (runsOn h line) ≡ hasCode 13 line
   over-line h l o Plain e = o
   over-line h l o Unparted e = o
-  over-line h l o (Labelled x v) e = ends-same (over (x .holds)) (eqb 13 (x .code)) (label-ends l x v e)
+  over-line h l o (Labelled x v) e = over-label l x v e
 
   pub over-after : (st : State) (l : Bytes) → over (st .running) ≡ false → over (after k st l .running) ≡ endLine l
   unfolding endLine
@@ -185,7 +188,7 @@ module _ (k : ℕ) where
   pub blank-running : (st : State) (l : Bytes) → all gap l ≡ true → after k st l .running ≡ st .running
   blank-running st l h = after-running k st l ∙ ap (runsOn (st .running)) (blank-plain l h)
 
-  closed-behind : (st : State) (ls : List Bytes) → over (st .running) ≡ true → along k closedAt st ls ≡ all (all gap) ls
+  pub closed-behind : (st : State) (ls : List Bytes) → over (st .running) ≡ true → along k closedAt st ls ≡ all (all gap) ls
   unfolding along all
   closed-behind st [] o = refl
   closed-behind st (l ∷ ls) o = by (all gap l) refl (closed-behind (after k st l) ls)

@@ -115,10 +115,10 @@ module _ {A : Type 0} (f : Told → List A) where
   told-nil h = flat-nil f
 
 module _ (k : ℕ) where
-  told-after : {A : Type 0} (f : Told → List A) (st : State) (l : Bytes) (ls : List Bytes) → flat f (told (st .running) (l ∷ ls)) ≡ flat f (toldAs (st .running) l (lineOf l)) ++ flat f (told (after k st l .running) ls)
+  pub told-after : {A : Type 0} (f : Told → List A) (st : State) (l : Bytes) (ls : List Bytes) → flat f (told (st .running) (l ∷ ls)) ≡ flat f (toldAs (st .running) l (lineOf l)) ++ flat f (told (after k st l .running) ls)
   told-after f st l ls = told-cons f (st .running) l ls ∙ ap (λ (h : Holds). flat f (toldAs (st .running) l (lineOf l)) ++ flat f (told h ls)) (sym (after-running k st l))
 
-  count-after : (st : State) (l : Bytes) → atomCount (after k st l) ≡ atomCount st + length (atomsAt st l)
+  pub count-after : (st : State) (l : Bytes) → atomCount (after k st l) ≡ atomCount st + length (atomsAt st l)
   count-after st l =
       ap length (after-atoms k st l) ∙ length-append (st .body .atoms) (map (atomOf k) (atomsAt st l)) ∙ ap (λ (n : ℕ). atomCount st + n) (length-map (atomsAt st l) (atomOf k))
 

@@ -21,4 +21,5 @@ pub mod AcceptedSteps
 pub mod AcceptedState
 pub mod AcceptedLines
 pub mod AcceptedRows
+pub mod AcceptedOrder
 pub mod Demands
