@@ -2,7 +2,7 @@
 -- record, so that the state at END is the state at the end. Serves "accepted exactly when"; document 01, "Lines and labels". Assumes nothing.
 use Prim.Native.Nat.{ℕ, _+_, _≤_}
 use mathlib.Core.Path.{_≡_, refl, sym, ap, _∙_}
-use mathlib.Core.Bool.{Bool, true, false, not, _&&_, _||_}
+use mathlib.Core.Bool.{Bool, true, false, not, _&&_, _||_, and-true}
 use mathlib.Core.Logic.{_⊎_, inl, inr}
 use mathlib.Core.List.{List, [], _∷_, _++_, append-nil}
 use native.Mathlib.Nat.{add-zero}
@@ -214,3 +214,150 @@ module _ (k : ℕ) where
       let n : formulaHeld (x .holds) ≡ false = never (formulaHeld (x .holds)) (λ f. torn (misplaced (st .seen) x) (formula-misplaced (st .seen) x h (or-other (not (formulaHeld (x .holds))) (eqb (x .code) 5) (formula-code l x v e) (ap not f))) (not-true (misplaced (st .seen) x) p)) in
       let q : (afterValue k (x .holds) (opened st x) _ v .formula ≡ st .formula) × (entriesIn k (x .holds) v ≡ []) = value-formula k (x .holds) (opened st x) _ v n in
       (q .0, flat-one (entriesOn k) (Value (x .holds) v) ∙ q .1)
+
+  formula-later : (st : State) (ls : List Bytes) → formulaSeen (st .seen) ≡ true → along k (placed k) st ls ≡ true
+      → (afters k st ls .formula ≡ st .formula) × (flat (entriesOn k) (told (st .running) ls) ≡ [])
+  unfolding along afters after
+  formula-later st [] h p = (refl, told-nil (entriesOn k) (st .running))
+  formula-later st (l ∷ ls) h p =
+      let q : (placed k st l ≡ true) × (along k (placed k) (after k st l) ls ≡ true) = and-parts (placed k st l) (along k (placed k) (after k st l) ls) p in
+      let x : (afterAs k st l (lineOf l) .formula ≡ st .formula) × (flat (entriesOn k) (toldAs (st .running) l (lineOf l)) ≡ []) = formula-quiet st l (lineOf l) refl h (q .0) in
+      let y : (afters k (after k st l) ls .formula ≡ after k st l .formula) × (flat (entriesOn k) (told (after k st l .running) ls) ≡ []) = formula-later (after k st l) ls (seen-later (λ y. eqb (y .code) 5) st l h) (q .1) in
+      (y .0 ∙ x .0, told-after k (entriesOn k) st l ls ∙ ap (λ (es : List Entry). es ++ flat (entriesOn k) (told (after k st l .running) ls)) (x .1) ∙ y .1)
+
+  -- a line gives no entry, or all that the formula has
+  abbrev Quiet : State → Bytes → Line → Type 0
+  Quiet st l line = (afterAs k st l line .formula ≡ []) × (flat (entriesOn k) (toldAs (st .running) l line) ≡ [])
+
+  abbrev Given : State → Bytes → Line → Type 0
+  Given st l line = (afterAs k st l line .formula ≡ flat (entriesOn k) (toldAs (st .running) l line)) × (formulaSeen (labelOn line) ≡ true)
+
+  formula-line : (st : State) (l : Bytes) (line : Line) → lineOf l ≡ line → st .formula ≡ [] → Quiet st l line ⊎ Given st l line
+  formula-line st l Plain e n = inl (further-formula k (st .running) st l ∙ n, flat-one (entriesOn k) (Further (st .running) l))
+  formula-line st l Unparted e n = inl (n, flat-nil (entriesOn k))
+  formula-line st l (Labelled x v) e n = by (formulaHeld (x .holds)) refl
+    where
+      by : (b : Bool) → formulaHeld (x .holds) ≡ b → Quiet st l (Labelled x v) ⊎ Given st l (Labelled x v)
+      by true f =
+          let c : eqb (x .code) 5 ≡ true = or-other (not (formulaHeld (x .holds))) (eqb (x .code) 5) (formula-code l x v e) (ap not f) in
+          let z : eqb (x .code) 0 ≡ false = ap (λ (i : ℕ). eqb i 0) (eqb-true (x .code) 5 c) in
+          inr (value-entries k (x .holds) (opened st x) _ v n f ∙ sym (flat-one (entriesOn k) (Value (x .holds) v)), noted-some (λ y. eqb (y .code) 5) x v z c)
+      by false f =
+          let q : (afterValue k (x .holds) (opened st x) _ v .formula ≡ st .formula) × (entriesIn k (x .holds) v ≡ []) = value-formula k (x .holds) (opened st x) _ v f in
+          inl (q .0 ∙ n, flat-one (entriesOn k) (Value (x .holds) v) ∙ q .1)
+
+  pub formula-is : (st : State) (ls : List Bytes) → st .formula ≡ [] → along k (placed k) st ls ≡ true → afters k st ls .formula ≡ flat (entriesOn k) (told (st .running) ls)
+  unfolding along afters after
+  formula-is st [] n p = n ∙ sym (told-nil (entriesOn k) (st .running))
+  formula-is st (l ∷ ls) n p =
+      let q : (placed k st l ≡ true) × (along k (placed k) (after k st l) ls ≡ true) = and-parts (placed k st l) (along k (placed k) (after k st l) ls) p in
+      by (formula-line st l (lineOf l) refl n) (q .1) (formula-is (after k st l) ls) ∙ sym (told-after k (entriesOn k) st l ls)
+    where
+      by : Quiet st l (lineOf l) ⊎ Given st l (lineOf l) → along k (placed k) (after k st l) ls ≡ true
+          → (after k st l .formula ≡ [] → along k (placed k) (after k st l) ls ≡ true → afters k (after k st l) ls .formula ≡ flat (entriesOn k) (told (after k st l .running) ls))
+          → afters k (after k st l) ls .formula ≡ flat (entriesOn k) (toldAs (st .running) l (lineOf l)) ++ flat (entriesOn k) (told (after k st l .running) ls)
+      by (inl x) q ih = ih (x .0) q ∙ ap (λ (es : List Entry). es ++ flat (entriesOn k) (told (after k st l .running) ls)) (sym (x .1))
+      by (inr x) q ih =
+          let y : (afters k (after k st l) ls .formula ≡ after k st l .formula) × (flat (entriesOn k) (told (after k st l .running) ls) ≡ []) = formula-later (after k st l) ls (seen-now (λ y. eqb (y .code) 5) st l (x .1)) q in
+          y .0 ∙ x .0 ∙ sym (append-nil (flat (entriesOn k) (toldAs (st .running) l (lineOf l)))) ∙ ap (λ (es : List Entry). flat (entriesOn k) (toldAs (st .running) l (lineOf l)) ++ es) (sym (y .1))
+
+  -- THE LABELS SEEN
+  seen-shuffle : (a b c : Bool) → (a || (b || c)) ≡ ((b || a) || c)
+  seen-shuffle true true c = refl
+  seen-shuffle true false c = refl
+  seen-shuffle false true c = refl
+  seen-shuffle false false c = refl
+
+  pub seen-any : (p : Label → Bool) (st : State) (ls : List Bytes) → any p (afters k st ls .seen) ≡ (any p (labels ls) || any p (st .seen))
+  unfolding afters
+  seen-any p st [] = sym (ap (λ (xs : List Label). any p xs || any p (st .seen)) (flat-nil (λ l. labelOn (lineOf l))) ∙ ap (λ (t : Bool). t || any p (st .seen)) (any-nil p))
+  seen-any p st (l ∷ ls) =
+      seen-any p (after k st l) ls ∙ ap (λ (xs : List Label). any p (labels ls) || any p xs) (after-seen k st l)
+      ∙ ap (λ (t : Bool). any p (labels ls) || t) (any-append p (labelOn (lineOf l)) (st .seen))
+      ∙ seen-shuffle (any p (labels ls)) (any p (labelOn (lineOf l))) (any p (st .seen))
+      ∙ ap (λ (t : Bool). t || any p (st .seen)) (sym (any-append p (labelOn (lineOf l)) (labels ls)))
+      ∙ ap (λ (xs : List Label). any p xs || any p (st .seen)) (sym (flat-cons (λ b. labelOn (lineOf b)) l ls))
+
+  -- END: behind it nothing changes but the place
+  over-further : (h : Holds) (st : State) (l : Bytes) → over h ≡ true → afterFurther k h st l ≡ st
+  over-further (Text i) st l o = torn false o refl
+  over-further Version st l o = torn false o refl
+  over-further Formula st l o = torn false o refl
+  over-further BlockId st l o = torn false o refl
+  over-further Atoms st l o = torn false o refl
+  over-further (Rows m) st l o = torn false o refl
+  over-further End st l o = refl
+  over-further Skipped st l o = torn false o refl
+
+  over-value : (h : Holds) (st : State) (from : ℕ) (v : Bytes) → over h ≡ true → afterValue k h st from v ≡ st
+  over-value (Text i) st from v o = torn false o refl
+  over-value Version st from v o = torn false o refl
+  over-value Formula st from v o = torn false o refl
+  over-value BlockId st from v o = torn false o refl
+  over-value Atoms st from v o = torn false o refl
+  over-value (Rows m) st from v o = torn false o refl
+  over-value End st from v o = refl
+  over-value Skipped st from v o = torn false o refl
+
+  blank-after : (st : State) (l : Bytes) → over (st .running) ≡ true → all gap l ≡ true → after k st l ≡ past l st
+  unfolding after
+  blank-after st l o h = ap (λ (line : Line). past l (afterAs k st l line)) (blank-plain l h) ∙ ap (past l) (over-further (st .running) st l o)
+
+  abbrev pub ready : State → Bytes → Bool
+  ready st l = endAt st (lineOf l)
+
+  behind-end : (st : State) (ls : List Bytes) → over (st .running) ≡ true → all (all gap) ls ≡ true
+      → (along k ready st ls ≡ true) × (complete (afters k st ls) ≡ complete st) × (over (afters k st ls .running) ≡ true)
+  unfolding along afters
+  behind-end st [] o h = (refl, refl, o)
+  behind-end st (l ∷ ls) o h =
+      let q : (all gap l ≡ true) × (all (all gap) ls ≡ true) = all-parts (all gap) l ls h in
+      let a : after k st l ≡ past l st = blank-after st l o (q .0) in
+      let x : (along k ready (after k st l) ls ≡ true) × (complete (afters k (after k st l) ls) ≡ complete (after k st l)) × (over (afters k (after k st l) ls .running) ≡ true) =
+      behind-end (after k st l) ls (ap (λ (s : State). over (s .running)) a ∙ o) (q .1) in
+      (and-both (ready st l) (along k ready (after k st l) ls) (ap (endAt st) (blank-plain l (q .0))) (x .0), x .1 ∙ ap complete a, x .2)
+
+  end-line : (st : State) (l : Bytes) (line : Line) → lineOf l ≡ line → hasCode 13 line ≡ true → endAt st line ≡ complete (past l (afterAs k st l line))
+  end-line st l Plain e h = torn false h refl
+  end-line st l Unparted e h = torn false h refl
+  end-line st l (Labelled x v) e h =
+      let o : over (x .holds) ≡ true = over-label k l x v e ∙ h in
+      ap (λ (t : Bool). not t || complete (opened st x)) o ∙ ap (λ (s : State). complete (past l s)) (sym (over-value (x .holds) (opened st x) _ v o))
+
+  other-line : (st : State) (l : Bytes) (line : Line) → lineOf l ≡ line → hasCode 13 line ≡ false → endAt st line ≡ true
+  other-line st l Plain e h = refl
+  other-line st l Unparted e h = refl
+  other-line st l (Labelled x v) e h = ap (λ (t : Bool). not t || complete (opened st x)) (over-label k l x v e ∙ h)
+
+  at-end-line : (st : State) (l : Bytes) → endLine l ≡ true → ready st l ≡ complete (after k st l)
+  unfolding endLine after
+  at-end-line st l e = end-line st l (lineOf l) refl e
+
+  no-end-line : (st : State) (l : Bytes) → endLine l ≡ false → ready st l ≡ true
+  unfolding endLine
+  no-end-line st l e = other-line st l (lineOf l) refl e
+
+  -- the tests of the END line are passed at the end or not at all
+  pub end-is : (st : State) (ls : List Bytes) → over (st .running) ≡ false → along k closedAt st ls ≡ true → any endLine ls ≡ true
+      → (along k ready st ls ≡ complete (afters k st ls)) × (over (afters k st ls .running) ≡ true)
+  unfolding along afters any
+  end-is st [] o c h = torn false h refl
+  end-is st (l ∷ ls) o c h = by (endLine l) refl h (and-parts (closedAt st l) (along k closedAt (after k st l) ls) c .1) (end-is (after k st l) ls)
+    where
+      by : (b : Bool) → endLine l ≡ b → (b || any endLine ls) ≡ true → along k closedAt (after k st l) ls ≡ true
+          → (over (after k st l .running) ≡ false → along k closedAt (after k st l) ls ≡ true → any endLine ls ≡ true → (along k ready (after k st l) ls ≡ complete (afters k (after k st l) ls)) × (over (afters k (after k st l) ls .running) ≡ true))
+          → ((ready st l && along k ready (after k st l) ls) ≡ complete (afters k (after k st l) ls)) × (over (afters k (after k st l) ls .running) ≡ true)
+      by true e h c ih =
+          let o′ : over (after k st l .running) ≡ true = over-after k st l o ∙ e in
+          let x : (along k ready (after k st l) ls ≡ true) × (complete (afters k (after k st l) ls) ≡ complete (after k st l)) × (over (afters k (after k st l) ls .running) ≡ true) =
+          behind-end (after k st l) ls o′ (sym (closed-behind k (after k st l) ls o′) ∙ c) in
+          (ap (λ (t : Bool). ready st l && t) (x .0) ∙ and-true (ready st l) ∙ at-end-line st l e ∙ sym (x .1), x .2)
+      by false e h c ih =
+          let x : (along k ready (after k st l) ls ≡ complete (afters k (after k st l) ls)) × (over (afters k (after k st l) ls .running) ≡ true) = ih (over-after k st l o ∙ e) c h in
+          (ap (λ (t : Bool). t && along k ready (after k st l) ls) (no-end-line st l e) ∙ x .0, x .1)
+
+  -- without an END line END is not reached
+  pub end-none : (st : State) (ls : List Bytes) → over (st .running) ≡ false → any endLine ls ≡ false → over (afters k st ls .running) ≡ false
+  unfolding afters any
+  end-none st [] o h = o
+  end-none st (l ∷ ls) o h = let q : (endLine l ≡ false) × (any endLine ls ≡ false) = or-parts (endLine l) (any endLine ls) h in end-none (after k st l) ls (over-after k st l o ∙ q .0) (q .1)
