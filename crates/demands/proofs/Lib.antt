@@ -22,4 +22,5 @@ pub mod AcceptedState
 pub mod AcceptedLines
 pub mod AcceptedRows
 pub mod AcceptedOrder
+pub mod Accepted
 pub mod Demands

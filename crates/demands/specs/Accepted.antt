@@ -227,3 +227,8 @@ pub record Obeys (k : ℕ) (b : Bytes) : Type 0 where
   -- an END line stands there, and behind it only blanks
   pub end-there : any endLine (cut b) ≡ true
   pub end-last : all (all gap) (behindEnd (cut b)) ≡ true
+
+-- each follows from the other
+infix 5 _exactlyWhen_
+abbrev pub _exactlyWhen_ : Type 0 → Type 0 → Type 0
+A exactlyWhen B = (A → B) × (B → A)
