@@ -15,7 +15,7 @@ use Rattle.lists.specs.Folding.{kept}
 use Rattle.lists.proofs.Bools.{torn, always, and-parts, and-both, not-or, not-of-false}
 use Rattle.lists.proofs.ListLaws.{all-same, any-nil, any-all}
 use Rattle.lists.proofs.SortLaws.{sort-all}
-use Rattle.format.specs.Bytes.{Bytes, within, gap, allowed, cut}
+use Rattle.format.specs.Bytes.{Bytes, bytes, within, gap, allowed, cut}
 use Rattle.format.specs.Labels.{ListOf, Bonds, Charges, Radicals, Centres, Pairs, Skipped, Label, lineOf, endLine, titleLine}
 use Rattle.format.specs.Rows.{Row, AtomRow}
 use Rattle.format.specs.Structure.{Isotope, Atom, rowsOf, most, meets, clash, Entry, entriesOf, total, agree, Structure}
@@ -23,6 +23,8 @@ use Rattle.format.specs.Reading.{strict, State, atomCount, lacks, ordered, over
 use Rattle.format.specs.Table.{ReadResult, tableOf, readResult}
 use Rattle.format.proofs.AcceptedLaws.{block-refuses}
 use Rattle.format.proofs.TotalLaws.{agree-every, every-agree}
+use Rattle.format.proofs.Computing.{computing}
+use Rattle.demands.specs.Examples.{neon, wrongNeon}
 use Rattle.demands.specs.Accepted.{told, unparted, titleFirst, behindEnd, labels, outOfOrder, named, numbered, ownRule, atomOn, rowOf, entriesOn, valueRule, furtherRule, atomOf, atomRows, listRows, formulaIn, Obeys, _exactlyWhen_}
 use Rattle.demands.proofs.Refused.{long-read}
 use Rattle.demands.proofs.AcceptedSteps.{afters, along, along-and, along-all, keeps, when, acceptedAs, read-is, listPasses, onLine, titledAt, closedAt, nextAtom, roomAt, listedAt, apartAt, heldAt, present, complete}
@@ -350,3 +352,8 @@ module _ (k : ℕ) (b : Bytes) where
       let q : readResult k b t ≡ tableOf (drop 3856 t) (readBlock (strict k) b) = long-read k b t h in
       let g : (tableOf (drop 3856 t) (readBlock (strict k) b) .number ≡ 0) exactlyWhen (good (readBlock (strict k) b) ≡ true) = number-good (drop 3856 t) (readBlock (strict k) b) (block-refuses (strict k) b) in
       (λ e. block-iff .0 (g .0 (sym (ap (λ (r : ReadResult). r .number) q) ∙ e)), λ y. ap (λ (r : ReadResult). r .number) q ∙ g .1 (block-iff .1 y))
+
+-- the neon block obeys, the block with `2 Ne` does not
+pub neon-obeys : Obeys 103 (bytes neon) × (Obeys 103 (bytes wrongNeon) → ⊥)
+unfolding computing
+neon-obeys = (block-iff 103 (bytes neon) .0 refl, λ y. torn false (block-iff 103 (bytes wrongNeon) .1 y) refl)
