@@ -30,7 +30,8 @@ use Rattle.demands.proofs.Refused.{long-read}
 use Rattle.demands.proofs.AcceptedSteps.{afters, along, along-and, along-all, keeps, when, acceptedAs, read-is, listPasses, onLine, titledAt, closedAt, nextAtom, roomAt, listedAt, apartAt, heldAt, present, complete}
 use Rattle.demands.proofs.AcceptedLines.{placed, placed-ordered, titled-first, closed-is, own-is}
 use Rattle.demands.proofs.AcceptedRows.{atomTest, numbers-are, atoms-roomy, afters-atoms, along-imply, along-every, line-each, line-every, rowTest, freeRow, heldRow, rows-free, rows-held}
-use Rattle.demands.proofs.AcceptedOrder.{Follows, listedRow, rows-listed, formula-is, seen-any, ready, end-is, end-none}
+use Rattle.demands.proofs.AcceptedOrder.{Follows, listedRow, rows-listed, seen-any, ready, end-is, end-none}
+use Rattle.demands.proofs.AcceptedOnce.{formula-is}
 
 -- THE TWELVE TESTS, each along all lines
 abbrev listTest : (State → ListOf → Row → Bool) → State → Bytes → Bool

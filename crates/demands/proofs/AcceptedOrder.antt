@@ -1,5 +1,5 @@
--- What the order of the labels gives: the lists stand behind the atoms, so that the atoms listed by then are all atoms; a formula is given once; END is the last
--- record, so that the state at END is the state at the end. Serves "accepted exactly when"; document 01, "Lines and labels". Assumes nothing.
+-- What the order of the labels gives: the lists stand behind the atoms, so that the atoms listed by then are all atoms, and END is the last record, so
+-- that the state at END is the state at the end. Serves "accepted exactly when"; document 01, "Lines and labels". Assumes nothing.
 use Prim.Native.Nat.{ℕ, _+_, _≤_}
 use mathlib.Core.Path.{_≡_, refl, sym, ap, _∙_}
 use mathlib.Core.Bool.{Bool, true, false, not, _&&_, _||_, and-true}
@@ -21,7 +21,7 @@ use Rattle.format.specs.Structure.{Entry}
 use Rattle.format.specs.Reading.{State, past, opened, noted, over, atomCount}
 use Rattle.demands.specs.Accepted.{Told, Value, Further, toldAs, runsOn, told, labelOn, labels, atomIn, atomOn, rowIn, rowOf, entriesIn, entriesOn}
 use Rattle.demands.proofs.AcceptedSteps.{afterValue, afterFurther, afterAs, after, afters, along, placedAt, closedAt, complete, endAt, blank-plain}
-use Rattle.demands.proofs.AcceptedState.{after-running, after-seen, formulaHeld, value-formula, value-entries, further-formula}
+use Rattle.demands.proofs.AcceptedState.{after-running, after-seen}
 use Rattle.demands.proofs.AcceptedLines.{label-passed, placed, over-after, blank-running, closed-behind, over-label}
 use Rattle.demands.proofs.AcceptedRows.{told-cons, told-nil, told-after, count-after, rowsAt, rowTest}
 
@@ -95,19 +95,15 @@ rows-low : (l : Bytes) (x : Label) (v : Bytes) → lineOf l ≡ Labelled x v →
 unfolding known all label
 rows-low = label-passed (λ x. not (rowsHeld (x .holds)) || (leb 7 (x .low) && not (eqb (x .code) 0))) refl refl
 
-formula-code : (l : Bytes) (x : Label) (v : Bytes) → lineOf l ≡ Labelled x v → (not (formulaHeld (x .holds)) || eqb (x .code) 5) ≡ true
-unfolding known all label
-formula-code = label-passed (λ x. not (formulaHeld (x .holds)) || eqb (x .code) 5) refl refl
-
 -- a label that is not unknown is among the seen
-noted-some : (p : Label → Bool) (x : Label) (v : Bytes) → eqb (x .code) 0 ≡ false → p x ≡ true → any p (labelOn (Labelled x v)) ≡ true
+pub noted-some : (p : Label → Bool) (x : Label) (v : Bytes) → eqb (x .code) 0 ≡ false → p x ≡ true → any p (labelOn (Labelled x v)) ≡ true
 noted-some p x v e f = ap (λ (b : Bool). any p (elim b as (λ (t : Bool). List Label) [ true ↦ [] | false ↦ x ∷ [] ])) e ∙ any-one p x ∙ f
 
 abbrev late : List Label → Bool
 late seen = any (λ y. leb 7 (y .low)) seen
 
-abbrev formulaSeen : List Label → Bool
-formulaSeen seen = any (λ y. eqb (y .code) 5) seen
+abbrev pub codeSeen : ℕ → List Label → Bool
+codeSeen c seen = any (λ y. eqb (y .code) c) seen
 
 late-misplaced : (seen : List Label) (x : Label) → late seen ≡ true → eqb (x .high) 6 ≡ true → misplaced seen x ≡ true
 unfolding misplaced
@@ -116,18 +112,19 @@ late-misplaced seen x h e = always (misplaced seen x) (λ f. torn (late seen) h 
     below : (y : Label) → (eqb (y .code) (x .code) || ltb (x .high) (y .low)) ≡ false → leb 7 (y .low) ≡ false
     below y f = lt-leb 7 (y .low) (omega (arith, ltb-false (x .high) (y .low) (or-parts (eqb (y .code) (x .code)) (ltb (x .high) (y .low)) f .1), eqb-true (x .high) 6 e))
 
-formula-misplaced : (seen : List Label) (x : Label) → formulaSeen seen ≡ true → eqb (x .code) 5 ≡ true → misplaced seen x ≡ true
+-- a label whose code has been seen is out of order
+pub code-misplaced : (c : ℕ) (seen : List Label) (x : Label) → codeSeen c seen ≡ true → eqb (x .code) c ≡ true → misplaced seen x ≡ true
 unfolding misplaced
-formula-misplaced seen x h e = always (misplaced seen x) (λ f. torn (formulaSeen seen) h (any-imply (λ y. eqb (y .code) (x .code) || ltb (x .high) (y .low)) (λ y. eqb (y .code) 5) other seen f))
+code-misplaced c seen x h e = always (misplaced seen x) (λ f. torn (codeSeen c seen) h (any-imply (λ y. eqb (y .code) (x .code) || ltb (x .high) (y .low)) (λ y. eqb (y .code) c) other seen f))
   where
-    other : (y : Label) → (eqb (y .code) (x .code) || ltb (x .high) (y .low)) ≡ false → eqb (y .code) 5 ≡ false
-    other y f = ap (eqb (y .code)) (sym (eqb-true (x .code) 5 e)) ∙ or-parts (eqb (y .code) (x .code)) (ltb (x .high) (y .low)) f .0
+    other : (y : Label) → (eqb (y .code) (x .code) || ltb (x .high) (y .low)) ≡ false → eqb (y .code) c ≡ false
+    other y f = ap (eqb (y .code)) (sym (eqb-true (x .code) c e)) ∙ or-parts (eqb (y .code) (x .code)) (ltb (x .high) (y .low)) f .0
 
 module _ (k : ℕ) where
-  seen-later : (p : Label → Bool) (st : State) (l : Bytes) → any p (st .seen) ≡ true → any p (after k st l .seen) ≡ true
+  pub seen-later : (p : Label → Bool) (st : State) (l : Bytes) → any p (st .seen) ≡ true → any p (after k st l .seen) ≡ true
   seen-later p st l h = ap (any p) (after-seen k st l) ∙ any-append p (labelOn (lineOf l)) (st .seen) ∙ or-right (any p (labelOn (lineOf l))) (any p (st .seen)) h
 
-  seen-now : (p : Label → Bool) (st : State) (l : Bytes) → any p (labelOn (lineOf l)) ≡ true → any p (after k st l .seen) ≡ true
+  pub seen-now : (p : Label → Bool) (st : State) (l : Bytes) → any p (labelOn (lineOf l)) ≡ true → any p (after k st l .seen) ≡ true
   seen-now p st l h = ap (any p) (after-seen k st l) ∙ any-append p (labelOn (lineOf l)) (st .seen) ∙ or-left (any p (labelOn (lineOf l))) (any p (st .seen)) h
 
   -- NO ATOM BEHIND A LIST
@@ -204,62 +201,6 @@ module _ (k : ℕ) where
           let c : atomCount (afters k (after k st b) ls) ≡ atomCount st =
           count-late (after k st b) ls n ∙ count-after k st b ∙ ap (λ (rs : List AtomRow). atomCount st + length rs) m ∙ add-zero (atomCount st) in
           ap (λ (i : ℕ). all (λ r. all (within 1 i) (r .atoms)) (rowsAt k l st b)) (sym c)
-
-  -- ONE FORMULA
-  formula-quiet : (st : State) (l : Bytes) (line : Line) → lineOf l ≡ line → formulaSeen (st .seen) ≡ true → placedAt st line ≡ true
-      → (afterAs k st l line .formula ≡ st .formula) × (flat (entriesOn k) (toldAs (st .running) l line) ≡ [])
-  formula-quiet st l Plain e h p = (further-formula k (st .running) st l, flat-one (entriesOn k) (Further (st .running) l))
-  formula-quiet st l Unparted e h p = (refl, flat-nil (entriesOn k))
-  formula-quiet st l (Labelled x v) e h p =
-      let n : formulaHeld (x .holds) ≡ false = never (formulaHeld (x .holds)) (λ f. torn (misplaced (st .seen) x) (formula-misplaced (st .seen) x h (or-other (not (formulaHeld (x .holds))) (eqb (x .code) 5) (formula-code l x v e) (ap not f))) (not-true (misplaced (st .seen) x) p)) in
-      let q : (afterValue k (x .holds) (opened st x) _ v .formula ≡ st .formula) × (entriesIn k (x .holds) v ≡ []) = value-formula k (x .holds) (opened st x) _ v n in
-      (q .0, flat-one (entriesOn k) (Value (x .holds) v) ∙ q .1)
-
-  formula-later : (st : State) (ls : List Bytes) → formulaSeen (st .seen) ≡ true → along k (placed k) st ls ≡ true
-      → (afters k st ls .formula ≡ st .formula) × (flat (entriesOn k) (told (st .running) ls) ≡ [])
-  unfolding along afters after
-  formula-later st [] h p = (refl, told-nil (entriesOn k) (st .running))
-  formula-later st (l ∷ ls) h p =
-      let q : (placed k st l ≡ true) × (along k (placed k) (after k st l) ls ≡ true) = and-parts (placed k st l) (along k (placed k) (after k st l) ls) p in
-      let x : (afterAs k st l (lineOf l) .formula ≡ st .formula) × (flat (entriesOn k) (toldAs (st .running) l (lineOf l)) ≡ []) = formula-quiet st l (lineOf l) refl h (q .0) in
-      let y : (afters k (after k st l) ls .formula ≡ after k st l .formula) × (flat (entriesOn k) (told (after k st l .running) ls) ≡ []) = formula-later (after k st l) ls (seen-later (λ y. eqb (y .code) 5) st l h) (q .1) in
-      (y .0 ∙ x .0, told-after k (entriesOn k) st l ls ∙ ap (λ (es : List Entry). es ++ flat (entriesOn k) (told (after k st l .running) ls)) (x .1) ∙ y .1)
-
-  -- a line gives no entry, or all that the formula has
-  abbrev Quiet : State → Bytes → Line → Type 0
-  Quiet st l line = (afterAs k st l line .formula ≡ []) × (flat (entriesOn k) (toldAs (st .running) l line) ≡ [])
-
-  abbrev Given : State → Bytes → Line → Type 0
-  Given st l line = (afterAs k st l line .formula ≡ flat (entriesOn k) (toldAs (st .running) l line)) × (formulaSeen (labelOn line) ≡ true)
-
-  formula-line : (st : State) (l : Bytes) (line : Line) → lineOf l ≡ line → st .formula ≡ [] → Quiet st l line ⊎ Given st l line
-  formula-line st l Plain e n = inl (further-formula k (st .running) st l ∙ n, flat-one (entriesOn k) (Further (st .running) l))
-  formula-line st l Unparted e n = inl (n, flat-nil (entriesOn k))
-  formula-line st l (Labelled x v) e n = by (formulaHeld (x .holds)) refl
-    where
-      by : (b : Bool) → formulaHeld (x .holds) ≡ b → Quiet st l (Labelled x v) ⊎ Given st l (Labelled x v)
-      by true f =
-          let c : eqb (x .code) 5 ≡ true = or-other (not (formulaHeld (x .holds))) (eqb (x .code) 5) (formula-code l x v e) (ap not f) in
-          let z : eqb (x .code) 0 ≡ false = ap (λ (i : ℕ). eqb i 0) (eqb-true (x .code) 5 c) in
-          inr (value-entries k (x .holds) (opened st x) _ v n f ∙ sym (flat-one (entriesOn k) (Value (x .holds) v)), noted-some (λ y. eqb (y .code) 5) x v z c)
-      by false f =
-          let q : (afterValue k (x .holds) (opened st x) _ v .formula ≡ st .formula) × (entriesIn k (x .holds) v ≡ []) = value-formula k (x .holds) (opened st x) _ v f in
-          inl (q .0 ∙ n, flat-one (entriesOn k) (Value (x .holds) v) ∙ q .1)
-
-  pub formula-is : (st : State) (ls : List Bytes) → st .formula ≡ [] → along k (placed k) st ls ≡ true → afters k st ls .formula ≡ flat (entriesOn k) (told (st .running) ls)
-  unfolding along afters after
-  formula-is st [] n p = n ∙ sym (told-nil (entriesOn k) (st .running))
-  formula-is st (l ∷ ls) n p =
-      let q : (placed k st l ≡ true) × (along k (placed k) (after k st l) ls ≡ true) = and-parts (placed k st l) (along k (placed k) (after k st l) ls) p in
-      by (formula-line st l (lineOf l) refl n) (q .1) (formula-is (after k st l) ls) ∙ sym (told-after k (entriesOn k) st l ls)
-    where
-      by : Quiet st l (lineOf l) ⊎ Given st l (lineOf l) → along k (placed k) (after k st l) ls ≡ true
-          → (after k st l .formula ≡ [] → along k (placed k) (after k st l) ls ≡ true → afters k (after k st l) ls .formula ≡ flat (entriesOn k) (told (after k st l .running) ls))
-          → afters k (after k st l) ls .formula ≡ flat (entriesOn k) (toldAs (st .running) l (lineOf l)) ++ flat (entriesOn k) (told (after k st l .running) ls)
-      by (inl x) q ih = ih (x .0) q ∙ ap (λ (es : List Entry). es ++ flat (entriesOn k) (told (after k st l .running) ls)) (sym (x .1))
-      by (inr x) q ih =
-          let y : (afters k (after k st l) ls .formula ≡ after k st l .formula) × (flat (entriesOn k) (told (after k st l .running) ls) ≡ []) = formula-later (after k st l) ls (seen-now (λ y. eqb (y .code) 5) st l (x .1)) q in
-          y .0 ∙ x .0 ∙ sym (append-nil (flat (entriesOn k) (toldAs (st .running) l (lineOf l)))) ∙ ap (λ (es : List Entry). flat (entriesOn k) (toldAs (st .running) l (lineOf l)) ++ es) (sym (y .1))
 
   -- THE LABELS SEEN
   seen-shuffle : (a b c : Bool) → (a || (b || c)) ≡ ((b || a) || c)

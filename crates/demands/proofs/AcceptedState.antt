@@ -9,7 +9,7 @@ use lib.Dec.{eqb}
 use Rattle.lists.specs.Lists.{any, flat}
 use Rattle.lists.specs.Folding.{kept}
 use Rattle.lists.proofs.Bools.{torn}
-use Rattle.lists.proofs.PartLaws.{flat-nil, flat-one, flat-append}
+use Rattle.lists.proofs.PartLaws.{flat-nil, flat-one}
 use Rattle.lists.proofs.FoldLaws.{kept-nil, kept-again, kept-new}
 use Rattle.format.specs.Bytes.{Bytes, fields, strip}
 use Rattle.format.specs.Labels.{ListOf, Bonds, Charges, Radicals, Centres, Pairs, Holds, Text, Version, Formula, BlockId, Atoms, Rows, End, Skipped, Label, Line, Plain, Unparted, Labelled, lineOf}
@@ -17,7 +17,8 @@ use Rattle.format.specs.Rows.{Row, AtomRow, number, field, atomShape, rowShape}
 use Rattle.format.specs.Formula.{Counted, formulaShape}
 use Rattle.format.specs.Structure.{Atom, Structure, rowsOf, meets, Entry}
 use Rattle.format.specs.Reading.{State, Prose, withBody, withFormula, withText, past, withAtoms, withId, withRows, noted, ordered, opened}
-use Rattle.demands.specs.Accepted.{toldAs, runsOn, told, labelOn, labels, rowOn, atomIn, atomOn, sameList, rowIn, rowOf, entriesAs, entriesIn, entriesOn, atomOf}
+use Rattle.demands.specs.Accepted.{toldAs, runsOn, labelOn, listed, rowOn, atomIn, atomOn, sameList, rowIn, rowOf, entriesAs, entriesIn, entriesOn, atomOf}
+use Rattle.demands.specs.ReadAs.{idIn, idAs}
 use Rattle.demands.proofs.AcceptedSteps.{addAll, addAtom, chosen, addRow, addFormula, addId, afterValue, afterFurther, afterAs, after, afters}
 
 -- WHAT NO LINE'S CONTENT CHANGES: the record that runs, the labels seen
@@ -333,3 +334,103 @@ module _ (k : ℕ) where
   further-formula (Rows m) st l = all-same (λ (s : State). s .formula) (addRow m) (row-same (λ (s : State). s .formula) m (λ s rs. refl)) st (map ordered (rowOn (rowShape m) (fields (strip l))))
   further-formula End st l = refl
   further-formula Skipped st l = refl
+
+-- THE BLOCK ID, which a BLOCK_ID value alone gives
+abbrev pub idHeld : Holds → Bool
+idHeld (Text i) = false
+idHeld Version = false
+idHeld Formula = false
+idHeld BlockId = true
+idHeld Atoms = false
+idHeld (Rows l) = false
+idHeld End = false
+idHeld Skipped = false
+
+rows-id : (l : ListOf) (rs : List Row) (s : Structure) → withRows l rs s .id ≡ s .id
+unfolding withRows
+rows-id Bonds rs s = refl
+rows-id Charges rs s = refl
+rows-id Radicals rs s = refl
+rows-id Centres rs s = refl
+rows-id Pairs rs s = refl
+
+module _ (k : ℕ) where
+  formula-id : (st : State) (o : Option (List Counted)) → addFormula k st o .body .id ≡ st .body .id
+  formula-id st none = refl
+  formula-id st (some cs) = refl
+
+  add-id : (st : State) (o : Option ℕ) → st .body .id ≡ 0 → addId st o .body .id ≡ idAs (listed o)
+  add-id st none e = e
+  add-id st (some n) e = refl
+
+  atoms-id : (st : State) (rs : List AtomRow) → addAll (addAtom k) st rs .body .id ≡ st .body .id
+  atoms-id st rs = all-same (λ (s : State). s .body .id) (addAtom k) (λ s r. refl) st rs
+
+  list-id : (m : ListOf) (st : State) (rs : List Row) → addAll (addRow m) st rs .body .id ≡ st .body .id
+  list-id m st rs = all-same (λ (s : State). s .body .id) (addRow m) (row-same (λ (s : State). s .body .id) m (λ s qs. rows-id m qs (s .body))) st rs
+
+  pub value-quiet-id : (h : Holds) (st : State) (from : ℕ) (v : Bytes) → idHeld h ≡ false → (afterValue k h st from v .body .id ≡ st .body .id) × (idIn h v ≡ [])
+  value-quiet-id (Text i) st from v e = (refl, refl)
+  value-quiet-id Version st from v e = (refl, refl)
+  value-quiet-id Formula st from v e = (formula-id st (formulaShape (strip v)), refl)
+  value-quiet-id BlockId st from v e = torn true refl e
+  value-quiet-id Atoms st from v e = (atoms-id st (rowOn atomShape (fields (strip v))), refl)
+  value-quiet-id (Rows m) st from v e = (list-id m st (map ordered (rowOn (rowShape m) (fields (strip v)))), refl)
+  value-quiet-id End st from v e = (refl, refl)
+  value-quiet-id Skipped st from v e = (refl, refl)
+
+  pub value-id : (h : Holds) (st : State) (from : ℕ) (v : Bytes) → st .body .id ≡ 0 → idHeld h ≡ true → afterValue k h st from v .body .id ≡ idAs (idIn h v)
+  value-id (Text i) st from v n e = torn false e refl
+  value-id Version st from v n e = torn false e refl
+  value-id Formula st from v n e = torn false e refl
+  value-id BlockId st from v n e = add-id st (number (field 0 (fields (strip v)))) n
+  value-id Atoms st from v n e = torn false e refl
+  value-id (Rows m) st from v n e = torn false e refl
+  value-id End st from v n e = torn false e refl
+  value-id Skipped st from v n e = torn false e refl
+
+  pub further-id : (h : Holds) (st : State) (l : Bytes) → afterFurther k h st l .body .id ≡ st .body .id
+  further-id (Text i) st l = refl
+  further-id Version st l = refl
+  further-id Formula st l = refl
+  further-id BlockId st l = refl
+  further-id Atoms st l = atoms-id st (rowOn atomShape (fields (strip l)))
+  further-id (Rows m) st l = list-id m st (map ordered (rowOn (rowShape m) (fields (strip l))))
+  further-id End st l = refl
+  further-id Skipped st l = refl
+
+  -- THE TEXTS: text i is started by its own label and goes on with the further lines of its record
+  texts-formula : (st : State) (o : Option (List Counted)) → addFormula k st o .texts ≡ st .texts
+  texts-formula st none = refl
+  texts-formula st (some cs) = refl
+
+  texts-id : (st : State) (o : Option ℕ) → addId st o .texts ≡ st .texts
+  texts-id st none = refl
+  texts-id st (some n) = refl
+
+  texts-atoms : (st : State) (rs : List AtomRow) → addAll (addAtom k) st rs .texts ≡ st .texts
+  texts-atoms st rs = all-same (λ (s : State). s .texts) (addAtom k) (λ s r. refl) st rs
+
+  texts-list : (m : ListOf) (st : State) (rs : List Row) → addAll (addRow m) st rs .texts ≡ st .texts
+  texts-list m st rs = all-same (λ (s : State). s .texts) (addRow m) (row-same (λ (s : State). s .texts) m (λ s qs. refl)) st rs
+
+  -- a record that holds no text leaves the texts
+  pub value-texts : (h : Holds) (st : State) (from : ℕ) (v : Bytes) → ((i : ℕ) → h ≡ Text i → ⊥) → afterValue k h st from v .texts ≡ st .texts
+  value-texts (Text i) st from v f = absurd (f i refl)
+  value-texts Version st from v f = refl
+  value-texts Formula st from v f = texts-formula st (formulaShape (strip v))
+  value-texts BlockId st from v f = texts-id st (number (field 0 (fields (strip v))))
+  value-texts Atoms st from v f = texts-atoms st (rowOn atomShape (fields (strip v)))
+  value-texts (Rows m) st from v f = texts-list m st (map ordered (rowOn (rowShape m) (fields (strip v))))
+  value-texts End st from v f = refl
+  value-texts Skipped st from v f = refl
+
+  pub further-texts : (h : Holds) (st : State) (l : Bytes) → ((i : ℕ) → h ≡ Text i → ⊥) → afterFurther k h st l .texts ≡ st .texts
+  further-texts (Text i) st l f = absurd (f i refl)
+  further-texts Version st l f = refl
+  further-texts Formula st l f = refl
+  further-texts BlockId st l f = refl
+  further-texts Atoms st l f = texts-atoms st (rowOn atomShape (fields (strip l)))
+  further-texts (Rows m) st l f = texts-list m st (map ordered (rowOn (rowShape m) (fields (strip l))))
+  further-texts End st l f = refl
+  further-texts Skipped st l f = refl

@@ -22,5 +22,6 @@ pub mod AcceptedState
 pub mod AcceptedLines
 pub mod AcceptedRows
 pub mod AcceptedOrder
+pub mod AcceptedOnce
 pub mod Accepted
 pub mod Demands

@@ -6,3 +6,4 @@ pub mod Examples
 pub mod Stretches
 pub mod WayBack
 pub mod Accepted
+pub mod ReadAs
