@@ -399,38 +399,17 @@ module _ (k : ℕ) where
   further-id End st l = refl
   further-id Skipped st l = refl
 
-  -- THE TEXTS: text i is started by its own label and goes on with the further lines of its record
-  texts-formula : (st : State) (o : Option (List Counted)) → addFormula k st o .texts ≡ st .texts
+  -- THE TEXTS: what is no text leaves them
+  pub texts-formula : (st : State) (o : Option (List Counted)) → addFormula k st o .texts ≡ st .texts
   texts-formula st none = refl
   texts-formula st (some cs) = refl
 
-  texts-id : (st : State) (o : Option ℕ) → addId st o .texts ≡ st .texts
+  pub texts-id : (st : State) (o : Option ℕ) → addId st o .texts ≡ st .texts
   texts-id st none = refl
   texts-id st (some n) = refl
 
-  texts-atoms : (st : State) (rs : List AtomRow) → addAll (addAtom k) st rs .texts ≡ st .texts
+  pub texts-atoms : (st : State) (rs : List AtomRow) → addAll (addAtom k) st rs .texts ≡ st .texts
   texts-atoms st rs = all-same (λ (s : State). s .texts) (addAtom k) (λ s r. refl) st rs
 
-  texts-list : (m : ListOf) (st : State) (rs : List Row) → addAll (addRow m) st rs .texts ≡ st .texts
+  pub texts-list : (m : ListOf) (st : State) (rs : List Row) → addAll (addRow m) st rs .texts ≡ st .texts
   texts-list m st rs = all-same (λ (s : State). s .texts) (addRow m) (row-same (λ (s : State). s .texts) m (λ s qs. refl)) st rs
-
-  -- a record that holds no text leaves the texts
-  pub value-texts : (h : Holds) (st : State) (from : ℕ) (v : Bytes) → ((i : ℕ) → h ≡ Text i → ⊥) → afterValue k h st from v .texts ≡ st .texts
-  value-texts (Text i) st from v f = absurd (f i refl)
-  value-texts Version st from v f = refl
-  value-texts Formula st from v f = texts-formula st (formulaShape (strip v))
-  value-texts BlockId st from v f = texts-id st (number (field 0 (fields (strip v))))
-  value-texts Atoms st from v f = texts-atoms st (rowOn atomShape (fields (strip v)))
-  value-texts (Rows m) st from v f = texts-list m st (map ordered (rowOn (rowShape m) (fields (strip v))))
-  value-texts End st from v f = refl
-  value-texts Skipped st from v f = refl
-
-  pub further-texts : (h : Holds) (st : State) (l : Bytes) → ((i : ℕ) → h ≡ Text i → ⊥) → afterFurther k h st l .texts ≡ st .texts
-  further-texts (Text i) st l f = absurd (f i refl)
-  further-texts Version st l f = refl
-  further-texts Formula st l f = refl
-  further-texts BlockId st l f = refl
-  further-texts Atoms st l f = texts-atoms st (rowOn atomShape (fields (strip l)))
-  further-texts (Rows m) st l f = texts-list m st (map ordered (rowOn (rowShape m) (fields (strip l))))
-  further-texts End st l f = refl
-  further-texts Skipped st l f = refl

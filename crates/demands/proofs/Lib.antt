@@ -23,5 +23,6 @@ pub mod AcceptedLines
 pub mod AcceptedRows
 pub mod AcceptedOrder
 pub mod AcceptedOnce
+pub mod AcceptedTexts
 pub mod Accepted
 pub mod Demands
