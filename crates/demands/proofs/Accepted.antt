@@ -118,7 +118,7 @@ module _ (k : ℕ) (st : State) (ls : List Bytes) where
       (both (listTest heldAt) (ready k) (x .held) (x .end)))))))))))
 
 -- AT THE START nothing has been read
-start-rows : (l : ListOf) → rowsOf l (start .body) ≡ []
+pub start-rows : (l : ListOf) → rowsOf l (start .body) ≡ []
 unfolding start rowsOf
 start-rows Bonds = refl
 start-rows Charges = refl
@@ -134,7 +134,7 @@ module _ (k : ℕ) (ls : List Bytes) where
   abbrev rowsOfAtoms : List AtomRow
   rowsOfAtoms = flat atomOn (told Skipped ls)
 
-  last-atoms : last .body .atoms ≡ map (atomOf k) rowsOfAtoms
+  pub last-atoms : last .body .atoms ≡ map (atomOf k) rowsOfAtoms
   unfolding start
   last-atoms = afters-atoms k start ls
 
@@ -159,7 +159,7 @@ module _ (k : ℕ) (ls : List Bytes) where
       ∙ ap (λ (t : Bool). t && not (eqb (atomCount last) 0)) (any-all (lacks (last .seen)) (2 ∷ 3 ∷ 4 ∷ 5 ∷ []) ∙ all-same (λ c. not (lacks (last .seen) c)) (named (labels ls)) last-named (2 ∷ 3 ∷ 4 ∷ 5 ∷ []))
       ∙ ap (λ (n : ℕ). all (named (labels ls)) (2 ∷ 3 ∷ 4 ∷ 5 ∷ []) && not (eqb n 0)) last-count
 
-  start-over : over (start .running) ≡ false
+  pub start-over : over (start .running) ≡ false
   unfolding start
   start-over = refl
 
@@ -302,7 +302,7 @@ module _ (k : ℕ) (b : Bytes) where
       some-there zero e = torn true refl e
       some-there (suc n) e = omega arith
 
-  twelve-kept : Obeys k b → Twelve k start lines
+  pub twelve-kept : Obeys k b → Twelve k start lines
   twelve-kept y =
       let ord : along k (placed k) start lines ≡ true = placed-ordered k lines ∙ not-of-false _ (y .labels-ordered) in
       let cl : along k closedAt start lines ≡ true = blank-is k lines ∙ y .end-last in
@@ -327,6 +327,12 @@ module _ (k : ℕ) (b : Bytes) where
         end = end-is k start lines (start-over k lines) cl (y .end-there) .0 ∙ and-both _ _ pr ag;
       }
 
+  pub end-reached : Obeys k b → over (afters k start lines .running) ≡ true
+  end-reached y = end-is k start lines (start-over k lines) (twelve-kept y .closed) (y .end-there) .1
+
+  pub all-kept : Obeys k b → along k (keeps k) start lines ≡ true
+  all-kept y = all-twelve k start lines (twelve-kept y)
+
   block-iff : (good (readBlock (strict k) b) ≡ true) exactlyWhen Obeys k b
   block-iff = (to, back)
     where
@@ -338,10 +344,9 @@ module _ (k : ℕ) (b : Bytes) where
 
       back : Obeys k b → good (readBlock (strict k) b) ≡ true
       back y =
-          let x : Twelve k start lines = twelve-kept y in
           block-good k b
           ∙ and-both _ _ (not-of-false (ltb 32768 (length b)) (le-ltb 32768 (length b) (y .short)))
-          (and-both _ _ (all-twelve k start lines x) (end-is k start lines (start-over k lines) (x .closed) (y .end-there) .1))
+          (and-both _ _ (all-kept y) (end-reached y))
 
   -- ACCEPTED EXACTLY WHEN
   number-good : (rest : List ℤ) (r : Reading) → ((n p : ℕ) → r ≡ Unread n p → 0 < n) → (tableOf rest r .number ≡ 0) exactlyWhen (good r ≡ true)

@@ -347,3 +347,21 @@ module _ (k : ℕ) (l : ListOf) where
               ∙ ih (subst (λ (qs : List Row). length qs ≤ most l) (sym q) (leb-false (most l) (length rows) g)) ∙ ap (λ (qs : List Row). leb (length (kept (meets l) qs rest)) (most l)) q
               ∙ ap (λ (qs : List Row). leb (length qs) (most l)) (sym (kept-new (meets l) rows r rest e))
       by (r ∷ s ∷ rs) few c ih = absurd (omega arith)
+
+  -- WHAT IS KEPT after all lines
+  kept-append : (rows xs ys : List Row) → kept (meets l) rows (xs ++ ys) ≡ kept (meets l) (kept (meets l) rows xs) ys
+  kept-append rows [] ys = ap (λ (qs : List Row). kept (meets l) qs ys) (sym (kept-nil (meets l) rows))
+  kept-append rows (x ∷ xs) ys = by (any (meets l x) rows) refl (kept-append rows xs ys) (kept-append (x ∷ rows) xs ys)
+    where
+      by : (a : Bool) → any (meets l x) rows ≡ a → kept (meets l) rows (xs ++ ys) ≡ kept (meets l) (kept (meets l) rows xs) ys → kept (meets l) (x ∷ rows) (xs ++ ys) ≡ kept (meets l) (kept (meets l) (x ∷ rows) xs) ys
+          → kept (meets l) rows (x ∷ (xs ++ ys)) ≡ kept (meets l) (kept (meets l) rows (x ∷ xs)) ys
+      by true e p q = kept-again (meets l) rows x (xs ++ ys) e ∙ p ∙ ap (λ (qs : List Row). kept (meets l) qs ys) (sym (kept-again (meets l) rows x xs e))
+      by false e p q = kept-new (meets l) rows x (xs ++ ys) e ∙ q ∙ ap (λ (qs : List Row). kept (meets l) qs ys) (sym (kept-new (meets l) rows x xs e))
+
+  pub afters-rows : (st : State) (ls : List Bytes) → rowsOf l (afters k st ls .body) ≡ kept (meets l) (rowsOf l (st .body)) (flat (rowOf l) (told (st .running) ls))
+  unfolding afters
+  afters-rows st [] = sym (ap (kept (meets l) (rowsOf l (st .body))) (told-nil (rowOf l) (st .running)) ∙ kept-nil (meets l) (rowsOf l (st .body)))
+  afters-rows st (b ∷ ls) =
+      afters-rows (after k st b) ls ∙ ap (λ (qs : List Row). kept (meets l) qs (flat (rowOf l) (told (after k st b .running) ls))) (after-rows l k st b)
+      ∙ sym (kept-append (rowsOf l (st .body)) (rowsAt st b) (flat (rowOf l) (told (after k st b .running) ls)))
+      ∙ ap (kept (meets l) (rowsOf l (st .body))) (sym (told-after k (rowOf l) st b ls))

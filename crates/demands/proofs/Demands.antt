@@ -9,7 +9,7 @@ use Rattle.lists.specs.Lists.{all, any}
 use Rattle.format.specs.Bytes.{Bytes, bytes, cut, whole}
 use Rattle.format.specs.Labels.{endLine}
 use Rattle.format.specs.Structure.{Isotope, Entry, total, agree, Structure, wellFormed}
-use Rattle.format.specs.Table.{zeros, textFine, sound, readAnswer, readResult}
+use Rattle.format.specs.Table.{zeros, encode, textFine, sound, readAnswer, readResult}
 use Rattle.format.specs.Writing.{canonical, formOf, unwritten, writeResult}
 use Rattle.format.specs.Walking.{block, piece, pieces, answers}
 use Rattle.format.proofs.TotalLaws as totals
@@ -20,7 +20,9 @@ use Rattle.demands.specs.Examples.{formicInput, formicWritten, formicTab
 use Rattle.demands.specs.Stretches.{closing, opening, moved, _then_, Chain, steps}
 use Rattle.demands.specs.WayBack.{ReadBack, TableBack, WrittenAgain, OneBlock}
 use Rattle.demands.specs.Accepted.{Obeys, _exactlyWhen_}
+use Rattle.demands.specs.ReadAs.{structureIn, spansIn}
 use Rattle.demands.proofs.Accepted as accepted
+use Rattle.demands.proofs.ReadAs as read
 use Rattle.demands.proofs.Worked as worked
 use Rattle.demands.proofs.Refused as refused
 use Rattle.demands.proofs.Stretches as stretches
@@ -46,6 +48,10 @@ refused-write = refused.refused-write
 -- required records are there, the formula's totals are the atoms' for every element and mass, and one END line stands there with only blanks behind it
 pub accepted-iff : (k : ℕ) (b : Bytes) (t : List ℤ) → 3856 ≤ length t → (readResult k b t .number ≡ 0) exactlyWhen Obeys k b
 accepted-iff = accepted.accepted-iff
+
+-- and its table is then, number for number, that of its atoms in order, of the rows of each list sorted and without repeats, of its block id and of its texts
+pub table-is : (k : ℕ) (b : Bytes) (t : List ℤ) → 3856 ≤ length t → Obeys k b → readResult k b t ≡ readAnswer 0 0 (encode (structureIn k b) (spansIn b) ++ drop 3856 t)
+table-is = read.table-is
 
 -- there are blocks that obey and blocks that do not: the neon block, the one with `2 Ne`
 pub obeying-met : Obeys 103 (bytes neon) × (Obeys 103 (bytes wrongNeon) → ⊥)

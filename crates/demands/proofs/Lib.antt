@@ -25,4 +25,5 @@ pub mod AcceptedOrder
 pub mod AcceptedOnce
 pub mod AcceptedTexts
 pub mod Accepted
+pub mod ReadAs
 pub mod Demands
