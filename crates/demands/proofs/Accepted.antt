@@ -1,24 +1,24 @@
 -- A block is accepted exactly when its lines and rows obey the rules of document 01, said without the reading's state: the twelve tests of each line, taken
 -- along all lines, are the fields of `Obeys`. Assumes nothing.
 use Prim.Native.Nat.{ℕ, zero, suc, _+_, _≤_, _<_}
-use mathlib.Core.Path.{_≡_, refl, sym, ap, _∙_, subst}
+use mathlib.Core.Path.{_≡_, refl, sym, ap, _∙_}
 use mathlib.Core.Bool.{Bool, true, false, not, _&&_, _||_, or-false}
 use mathlib.Core.Option.{Option, none, some}
-use mathlib.Core.List.{List, [], _∷_, _++_, map}
+use mathlib.Core.List.{List, [], _∷_, map}
 use native.Mathlib.Omega.{arith}
 use lib.ListN.{length, length-map, drop}
 use lib.IntN.{ℤ}
 use lib.Dec.{eqb, ltb, leb}
-use borrow.Author.Tests.{ltb-false, le-ltb, leb-true, le-leb, eqb-true, ne-eqb, not-true, not-false}
+use borrow.Author.Tests.{ltb-false, le-ltb, leb-true, le-leb, ne-eqb, not-true}
 use Rattle.lists.specs.Lists.{all, any, pairs, flat}
 use Rattle.lists.specs.Folding.{kept}
 use Rattle.lists.proofs.Bools.{torn, always, and-parts, and-both, not-or, not-of-false}
 use Rattle.lists.proofs.ListLaws.{all-same, any-nil, any-all}
 use Rattle.lists.proofs.SortLaws.{sort-all}
 use Rattle.format.specs.Bytes.{Bytes, bytes, within, gap, allowed, cut}
-use Rattle.format.specs.Labels.{ListOf, Bonds, Charges, Radicals, Centres, Pairs, Skipped, Label, lineOf, endLine, titleLine}
+use Rattle.format.specs.Labels.{ListOf, Bonds, Charges, Radicals, Centres, Pairs, Skipped, lineOf, endLine}
 use Rattle.format.specs.Rows.{Row, AtomRow}
-use Rattle.format.specs.Structure.{Isotope, Atom, rowsOf, most, meets, clash, Entry, entriesOf, total, agree, Structure}
+use Rattle.format.specs.Structure.{Atom, rowsOf, most, meets, clash, entriesOf, total, agree}
 use Rattle.format.specs.Reading.{strict, State, atomCount, lacks, ordered, over, start, Outcome, Accepted, Refused, Reading, Read, Unread, readingOf, readLines, readBlock}
 use Rattle.format.specs.Table.{ReadResult, tableOf, readResult}
 use Rattle.format.proofs.AcceptedLaws.{block-refuses}

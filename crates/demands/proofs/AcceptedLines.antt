@@ -1,23 +1,22 @@
 -- What every line passes says of all lines: the first is a TITLE line, the labels stand in order, END is there with only blanks behind it, each line keeps its
 -- own rules. The second stage of "accepted exactly when"; document 01, "Lines and labels". Assumes nothing.
-use Prim.Native.Nat.{ℕ, _≤_}
-use mathlib.Core.Path.{_≡_, refl, sym, ap, _∙_, subst}
+use Prim.Native.Nat.{ℕ}
+use mathlib.Core.Path.{_≡_, refl, sym, ap, _∙_}
 use mathlib.Core.Bool.{Bool, true, false, not, _&&_, _||_}
-use mathlib.Core.List.{List, [], _∷_, _++_, append-nil, append-assoc}
+use mathlib.Core.List.{List, [], _∷_, _++_}
 use native.Mathlib.Omega.{arith}
 use lib.ListN.{drop}
-use lib.Dec.{eqb, ltb, leb}
-use borrow.Author.Tests.{eqb-true, eq-eqb, le-ltb, leb-true, not-true, not-false}
+use lib.Dec.{eqb, leb}
+use borrow.Author.Tests.{eqb-true, le-ltb, leb-true, not-true}
 use Rattle.lists.specs.Lists.{isNil, all, any, pairs, flat}
-use Rattle.lists.proofs.Bools.{torn, never, and-parts, and-both, or-parts, or-neither}
-use Rattle.lists.proofs.ListLaws.{all-nil, all-one, all-parts, all-both, all-append, all-append-both, any-nil, any-cons, any-or, any-all}
-use Rattle.lists.proofs.PartLaws.{flat-nil, flat-cons}
-use Rattle.format.specs.Bytes.{Bytes, same, gap, isLabel}
-use Rattle.format.specs.Labels.{Holds, Skipped, Label, label, known, lookup, normal, misplaced, Parts, NoEquals, Parted, parts, partsLine, Line, Plain, Unparted, Labelled, lineOf, hasCode, titleLine, endLine}
+use Rattle.lists.proofs.Bools.{torn, and-parts, and-both, or-neither}
+use Rattle.lists.proofs.ListLaws.{all-nil, all-one, all-parts, all-both, all-append, any-nil, any-cons, any-or}
+use Rattle.format.specs.Bytes.{Bytes, gap, isLabel}
+use Rattle.format.specs.Labels.{Holds, Skipped, Label, label, known, normal, misplaced, Parts, NoEquals, Parted, parts, partsLine, Line, Plain, Unparted, Labelled, lineOf, hasCode, titleLine, endLine}
 use Rattle.format.specs.Reading.{State, noted, over, start}
 use Rattle.format.proofs.AcceptedLaws.{lookup-passes}
-use Rattle.demands.specs.Accepted.{Told, Value, Further, toldAs, runsOn, told, unparted, titleFirst, behindEnd, labelOn, labels, outOfOrder, valueRule, furtherRule, ownRule}
-use Rattle.demands.proofs.AcceptedSteps.{after, afters, along, along-all, onLine, titledAt, placedAt, closedAt, blank-plain}
+use Rattle.demands.specs.Accepted.{Told, Value, Further, toldAs, runsOn, told, behindEnd, labelOn, labels, outOfOrder, valueRule, furtherRule, ownRule}
+use Rattle.demands.proofs.AcceptedSteps.{after, along, onLine, titledAt, placedAt, closedAt, blank-plain}
 use Rattle.demands.proofs.AcceptedState.{after-running, after-seen}
 
 -- THE LABEL ON A LINE is one of the known or that of the skipped: what they all pass it passes

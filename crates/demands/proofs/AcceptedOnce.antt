@@ -2,17 +2,16 @@
 -- "accepted exactly when" and what the table then holds; document 01, "Each at most once". Assumes nothing.
 use Prim.Native.Nat.{ℕ}
 use mathlib.Core.Path.{_≡_, refl, sym, ap, _∙_}
-use mathlib.Core.Bool.{Bool, true, false, not, _&&_, _||_}
+use mathlib.Core.Bool.{Bool, true, false, not, _||_}
 use mathlib.Core.Logic.{_⊎_, inl, inr}
 use mathlib.Core.List.{List, [], _∷_, _++_, append-nil}
 use lib.Dec.{eqb}
 use borrow.Author.Tests.{eqb-true, not-true}
-use Rattle.lists.specs.Lists.{all, any, flat}
+use Rattle.lists.specs.Lists.{all, flat}
 use Rattle.lists.proofs.Bools.{torn, never, and-parts, or-other}
 use Rattle.lists.proofs.PartLaws.{flat-nil, flat-one}
 use Rattle.format.specs.Bytes.{Bytes}
 use Rattle.format.specs.Labels.{Holds, Label, label, known, misplaced, Line, Plain, Unparted, Labelled, lineOf}
-use Rattle.format.specs.Structure.{Entry}
 use Rattle.format.specs.Reading.{State, past, opened}
 use Rattle.demands.specs.Accepted.{Told, Value, Further, toldAs, told, labelOn, entriesOn}
 use Rattle.demands.specs.ReadAs.{idOn, idAs}

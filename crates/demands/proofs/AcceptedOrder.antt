@@ -1,29 +1,27 @@
 -- What the order of the labels gives: the lists stand behind the atoms, so that the atoms listed by then are all atoms, and END is the last record, so
 -- that the state at END is the state at the end. Serves "accepted exactly when"; document 01, "Lines and labels". Assumes nothing.
-use Prim.Native.Nat.{ℕ, _+_, _≤_}
+use Prim.Native.Nat.{ℕ, _+_}
 use mathlib.Core.Path.{_≡_, refl, sym, ap, _∙_}
 use mathlib.Core.Bool.{Bool, true, false, not, _&&_, _||_, and-true}
-use mathlib.Core.Logic.{_⊎_, inl, inr}
-use mathlib.Core.List.{List, [], _∷_, _++_, append-nil}
+use mathlib.Core.List.{List, [], _∷_, _++_}
 use native.Mathlib.Nat.{add-zero}
 use native.Mathlib.Omega.{arith}
 use lib.ListN.{length}
 use lib.Dec.{eqb, ltb, leb}
-use borrow.Author.Tests.{eqb-true, eq-eqb, ltb-false, leb-true, lt-leb, not-true, not-false}
+use borrow.Author.Tests.{eqb-true, ltb-false, lt-leb, not-true}
 use Rattle.lists.specs.Lists.{all, any, flat}
 use Rattle.lists.proofs.Bools.{torn, never, always, and-parts, and-both, or-parts, or-left, or-right, or-other}
-use Rattle.lists.proofs.ListLaws.{all-nil, all-append, all-parts, any-nil, any-one, any-hit, any-append, any-imply, any-cons}
+use Rattle.lists.proofs.ListLaws.{all-nil, all-append, all-parts, any-nil, any-one, any-append, any-imply}
 use Rattle.lists.proofs.PartLaws.{flat-nil, flat-one, flat-cons}
-use Rattle.format.specs.Bytes.{Bytes, within, gap, fields, strip}
+use Rattle.format.specs.Bytes.{Bytes, within, gap}
 use Rattle.format.specs.Labels.{ListOf, Holds, Text, Version, Formula, BlockId, Atoms, Rows, End, Skipped, Label, label, known, misplaced, Line, Plain, Unparted, Labelled, lineOf, hasCode, endLine}
 use Rattle.format.specs.Rows.{Row, AtomRow}
-use Rattle.format.specs.Structure.{Entry}
-use Rattle.format.specs.Reading.{State, past, opened, noted, over, atomCount}
-use Rattle.demands.specs.Accepted.{Told, Value, Further, toldAs, runsOn, told, labelOn, labels, atomIn, atomOn, rowIn, rowOf, entriesIn, entriesOn}
+use Rattle.format.specs.Reading.{State, past, opened, over, atomCount}
+use Rattle.demands.specs.Accepted.{Value, Further, toldAs, runsOn, told, labelOn, labels, atomIn, atomOn, rowIn, rowOf}
 use Rattle.demands.proofs.AcceptedSteps.{afterValue, afterFurther, afterAs, after, afters, along, placedAt, closedAt, complete, endAt, blank-plain}
 use Rattle.demands.proofs.AcceptedState.{after-running, after-seen}
-use Rattle.demands.proofs.AcceptedLines.{label-passed, placed, over-after, blank-running, closed-behind, over-label}
-use Rattle.demands.proofs.AcceptedRows.{told-cons, told-nil, told-after, count-after, rowsAt, rowTest}
+use Rattle.demands.proofs.AcceptedLines.{label-passed, placed, over-after, closed-behind, over-label}
+use Rattle.demands.proofs.AcceptedRows.{told-nil, told-after, count-after, rowsAt, rowTest}
 
 -- WHICH RECORDS HAVE ATOMS, WHICH HAVE ROWS
 abbrev atomsHeld : Holds → Bool

@@ -2,30 +2,28 @@
 -- no more are kept than it holds. The third stage of "accepted exactly when"; document 01, "Rows". Assumes nothing.
 use Prim.Native.Nat.{ℕ, suc, _+_, _≤_}
 use mathlib.Core.Path.{_≡_, refl, sym, ap, _∙_, subst}
-use mathlib.Core.Bool.{Bool, true, false, not, _&&_, _||_, and-true}
+use mathlib.Core.Bool.{Bool, true, false, not, _&&_, _||_}
 use mathlib.Core.Option.{Option, none, some}
 use mathlib.Core.List.{List, [], _∷_, _++_, map, append-nil, append-assoc, map-append}
-use native.Mathlib.Nat.{add-zero, add-suc, add-assoc}
+use native.Mathlib.Nat.{add-zero}
 use native.Mathlib.Omega.{arith}
 use lib.ListN.{length, length-append, length-map}
-use lib.Dec.{eqb, ltb, leb}
+use lib.Dec.{leb}
 use borrow.Author.Tests.{leb-true, leb-false, le-leb, lt-leb}
 use Rattle.lists.specs.Lists.{all, any, pairs, flat}
-use Rattle.lists.specs.Order.{sort}
 use Rattle.lists.specs.Folding.{Taken, on, halt, kept, takeRows, verdict}
-use Rattle.lists.proofs.Bools.{torn, and-parts, and-both}
-use Rattle.lists.proofs.ListLaws.{all-nil, all-one, all-same, any-nil}
+use Rattle.lists.proofs.Bools.{and-parts, and-both}
+use Rattle.lists.proofs.ListLaws.{all-nil, all-one, all-same}
 use Rattle.lists.proofs.PartLaws.{flat-nil, flat-one, flat-append, all-map}
-use Rattle.lists.proofs.SortLaws.{sort-all}
 use Rattle.lists.proofs.FoldLaws.{kept-nil, kept-again, kept-new, take-nil, take-bad, take-again, take-new}
-use Rattle.format.specs.Bytes.{Bytes, within, fields, strip}
+use Rattle.format.specs.Bytes.{Bytes, fields, strip}
 use Rattle.format.specs.Labels.{ListOf, Holds, Text, Version, Formula, BlockId, Atoms, Rows, End, Skipped, Line, Plain, Unparted, Labelled, lineOf}
 use Rattle.format.specs.Rows.{Row, AtomRow, atomShape, rowShape}
 use Rattle.format.specs.Structure.{Atom, rowsOf, most, meets, clash}
 use Rattle.format.specs.Reading.{State, atomCount, ordered}
 use Rattle.format.proofs.OrderLaws.{rows-accept}
 use Rattle.demands.specs.Accepted.{Told, Value, Further, toldAs, runsOn, told, listed, rowOn, atomIn, atomOn, sameList, rowIn, rowOf, numbered, atomOf}
-use Rattle.demands.proofs.AcceptedSteps.{after, afters, along, passing, rowPasses, atomPasses, listPasses, onLine, nextAtom, roomAt, listedAt, apartAt, heldAt}
+use Rattle.demands.proofs.AcceptedSteps.{after, afters, along, passing, rowPasses, atomPasses, listPasses, onLine, nextAtom, roomAt}
 use Rattle.demands.proofs.AcceptedState.{after-running, after-atoms, after-rows, same-list, list-same}
 
 -- ONE LINE HAS AT MOST ONE ROW

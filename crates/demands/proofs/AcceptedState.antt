@@ -4,7 +4,7 @@ use Prim.Native.Nat.{ℕ}
 use mathlib.Core.Path.{_≡_, refl, sym, ap, _∙_}
 use mathlib.Core.Bool.{Bool, true, false}
 use mathlib.Core.Option.{Option, none, some}
-use mathlib.Core.List.{List, [], _∷_, _++_, map, append-assoc, append-nil, map-append}
+use mathlib.Core.List.{List, [], _∷_, _++_, map, append-assoc, append-nil}
 use lib.Dec.{eqb}
 use Rattle.lists.specs.Lists.{any, flat}
 use Rattle.lists.specs.Folding.{kept}
@@ -16,10 +16,10 @@ use Rattle.format.specs.Labels.{ListOf, Bonds, Charges, Radicals, Centres, Pair
 use Rattle.format.specs.Rows.{Row, AtomRow, number, field, atomShape, rowShape}
 use Rattle.format.specs.Formula.{Counted, formulaShape}
 use Rattle.format.specs.Structure.{Atom, Structure, rowsOf, meets, Entry}
-use Rattle.format.specs.Reading.{State, Prose, withBody, withFormula, withText, past, withAtoms, withId, withRows, noted, ordered, opened}
-use Rattle.demands.specs.Accepted.{toldAs, runsOn, labelOn, listed, rowOn, atomIn, atomOn, sameList, rowIn, rowOf, entriesAs, entriesIn, entriesOn, atomOf}
+use Rattle.format.specs.Reading.{State, Prose, withBody, withFormula, withText, withAtoms, withId, withRows, ordered, opened}
+use Rattle.demands.specs.Accepted.{toldAs, runsOn, labelOn, listed, rowOn, atomIn, atomOn, sameList, rowIn, rowOf, entriesAs, entriesIn, atomOf}
 use Rattle.demands.specs.ReadAs.{idIn, idAs}
-use Rattle.demands.proofs.AcceptedSteps.{addAll, addAtom, chosen, addRow, addFormula, addId, afterValue, afterFurther, afterAs, after, afters}
+use Rattle.demands.proofs.AcceptedSteps.{addAll, addAtom, chosen, addRow, addFormula, addId, afterValue, afterFurther, afterAs, after}
 
 -- WHAT NO LINE'S CONTENT CHANGES: the record that runs, the labels seen
 module _ {B : Type 0} (g : State → B) where

@@ -12,12 +12,12 @@ use borrow.Author.Tests.{ne-eqb}
 use Rattle.lists.specs.Lists.{isNil, all, any, pairs}
 use Rattle.lists.proofs.Bools.{and-left-false, and-shuffle}
 use Rattle.lists.proofs.ListLaws.{all-parts}
-use Rattle.format.specs.Bytes.{Bytes, bytes, within, same, gap, hash, headIs, isLabel, allowed, fields, strip}
-use Rattle.format.specs.Labels.{ListOf, Holds, Text, Version, Formula, BlockId, Atoms, Rows, End, Skipped, Label, parts, partsLine, misplaced, Line, Plain, Unparted, Labelled, lineOf, titleLine}
+use Rattle.format.specs.Bytes.{Bytes, within, gap, hash, headIs, allowed, fields, strip}
+use Rattle.format.specs.Labels.{ListOf, Holds, Text, Version, Formula, BlockId, Atoms, Rows, End, Skipped, Label, misplaced, Line, Plain, Unparted, Labelled, lineOf, titleLine}
 use Rattle.format.specs.Rows.{Row, AtomRow, number, field, atomShape, rowShape}
 use Rattle.format.specs.Formula.{Counted, formulaShape}
 use Rattle.format.specs.Structure.{unknown, massOk, rowsOf, most, ranged, meets, clash, entriesOf, agree}
-use Rattle.format.specs.Reading.{strict, State, prose, Turn, Go, Stop, if_stop_else_, withBody, withFormula, withText, past, withAtoms, withId, withRows, atomCount, lacks, ordered, extended, atomTurn, joined, joinTurn, rowTurn, formulaTurn, versionTurn, idValue, idTurn, unlessBlank, atomLine, rowLine, endTurn, valueTurn, blankOr, furtherTurn, over, opened, lineTurn, lineStep, Outcome, Accepted, Refused, ending, readLines}
+use Rattle.format.specs.Reading.{strict, State, prose, Turn, Go, Stop, if_stop_else_, withBody, withFormula, withText, past, withAtoms, withId, withRows, atomCount, lacks, ordered, extended, atomTurn, joined, joinTurn, rowTurn, formulaTurn, versionTurn, idValue, idTurn, atomLine, rowLine, endTurn, valueTurn, blankOr, furtherTurn, over, opened, lineTurn, lineStep, Outcome, Accepted, Refused, ending, readLines}
 use Rattle.format.proofs.ByteLaws.{gap-small}
 use Rattle.format.proofs.ReadingLaws.{read-go, read-stop, read-end}
 use Rattle.demands.specs.Accepted.{listed, rowOn, entriesAs, fits, rowFits, atomFine, rowFine, formulaFine, versionFine, idFine, valueRule, furtherRule, atomOf, unparted}

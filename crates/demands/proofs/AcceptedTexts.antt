@@ -2,17 +2,17 @@
 -- Once for the three, over the text's number and its label's code; document 01, "TITLE, ORIGIN and OWNER are texts". Assumes nothing.
 use Prim.Native.Nat.{ℕ, _+_, _-_, _<_}
 use mathlib.Core.Path.{_≡_, refl, sym, ap, _∙_}
-use mathlib.Core.Bool.{Bool, true, false, not, _&&_, _||_}
+use mathlib.Core.Bool.{Bool, true, false, not, _||_}
 use mathlib.Core.List.{List, [], _∷_, _++_, map, append-nil, append-assoc}
 use native.Mathlib.Omega.{arith}
 use lib.ListN.{length, getD, set, length-set, drop}
 use lib.Seq.{getD-set-same, getD-set-other}
 use lib.Dec.{eqb}
 use borrow.Author.Tests.{eqb-true, eq-eqb, not-true}
-use Rattle.lists.specs.Lists.{all, any}
+use Rattle.lists.specs.Lists.{all}
 use Rattle.lists.proofs.Bools.{torn, and-parts, or-other}
 use Rattle.format.specs.Bytes.{Bytes, isLabel, fields, strip}
-use Rattle.format.specs.Labels.{Holds, Text, Version, Formula, BlockId, Atoms, Rows, End, Skipped, Label, label, known, misplaced, Parts, NoEquals, Parted, parts, partsLine, Line, Plain, Unparted, Labelled, lineOf}
+use Rattle.format.specs.Labels.{Holds, Text, Version, Formula, BlockId, Atoms, Rows, End, Skipped, Label, label, known, Parts, NoEquals, Parted, parts, partsLine, Line, Plain, Unparted, Labelled, lineOf}
 use Rattle.format.specs.Rows.{number, field, atomShape, rowShape}
 use Rattle.format.specs.Formula.{formulaShape}
 use Rattle.format.specs.Reading.{ordered, State, Prose, prose, extended, opened, start}

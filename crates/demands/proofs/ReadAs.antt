@@ -1,14 +1,13 @@
 -- What an accepted block is read as: its atoms in order, the rows of each list without repeats and sorted, its block id, and its texts where their records
 -- stand; so the table, number for number, is said of the block's lines alone. Document 01, "The structure table". Assumes nothing.
 use Prim.Native.Nat.{ℕ, _≤_}
-use mathlib.Core.Path.{_≡_, refl, sym, ap, _∙_}
+use mathlib.Core.Path.{_≡_, refl, ap, _∙_}
 use mathlib.Core.Bool.{Bool, true, false, _&&_}
-use mathlib.Core.Option.{Option, none, some}
-use mathlib.Core.List.{List, [], _∷_, _++_, map}
+use mathlib.Core.Option.{some}
+use mathlib.Core.List.{List, [], _++_, map}
 use native.Mathlib.Omega.{arith}
 use lib.ListN.{length, drop}
 use lib.IntN.{ℤ}
-use lib.Dec.{ltb}
 use borrow.Author.Tests.{le-ltb}
 use Rattle.lists.specs.Lists.{flat}
 use Rattle.lists.specs.Order.{sort}
@@ -18,16 +17,16 @@ use Rattle.format.specs.Bytes.{Bytes, cut}
 use Rattle.format.specs.Labels.{ListOf, Bonds, Charges, Radicals, Centres, Pairs}
 use Rattle.format.specs.Rows.{Row}
 use Rattle.format.specs.Structure.{Atom, Structure, rowsOf, meets, rowBefore}
-use Rattle.format.specs.Reading.{strict, State, Prose, over, start, finished, spanOf, Outcome, Accepted, Refused, Reading, Read, Unread, readingOf, readLines, readBlock}
+use Rattle.format.specs.Reading.{strict, State, over, start, finished, spanOf, Outcome, Accepted, Refused, Reading, Read, Unread, readingOf, readLines, readBlock}
 use Rattle.format.specs.Table.{encode, readAnswer, tableOf, readResult}
-use Rattle.demands.specs.Accepted.{atomOf, atomRows, listRows, toldOf, Obeys}
-use Rattle.demands.specs.ReadAs.{idOn, idAs, rowsInOrder, structureIn, spansIn}
+use Rattle.demands.specs.Accepted.{listRows, toldOf, Obeys}
+use Rattle.demands.specs.ReadAs.{idOn, idAs, structureIn, spansIn}
 use Rattle.demands.proofs.Refused.{long-read}
 use Rattle.demands.proofs.AcceptedSteps.{afters, along, keeps, when, acceptedAs, read-is}
 use Rattle.demands.proofs.AcceptedRows.{afters-rows}
 use Rattle.demands.proofs.AcceptedOnce.{id-is}
 use Rattle.demands.proofs.AcceptedTexts.{texts-are}
-use Rattle.demands.proofs.Accepted.{Twelve, start-rows, last-atoms, twelve-kept, all-kept, end-reached}
+use Rattle.demands.proofs.Accepted.{start-rows, last-atoms, twelve-kept, all-kept, end-reached}
 
 -- a structure by its parts
 abbrev built : List Atom → (ListOf → List Row) → ℕ → Structure
