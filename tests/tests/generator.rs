@@ -88,6 +88,8 @@ fn the_benchmarks_blocks_are_what_they_are_called() {
     }
     let mut table = vec![0; 3856];
     assert_eq!(read(&generate::typical::largest_block(), &mut table).number, 0);
+    assert_eq!(table[..6], [256, 512, 0, 0, 0, 0]);
+    assert_eq!(read(&generate::typical::full_block(), &mut table).number, 0);
     assert_eq!(table[..6], [256, 512, 64, 64, 128, 128]);
     let worst = generate::typical::worst_blocks();
     let answers: Vec<(usize, u64)> =

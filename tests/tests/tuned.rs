@@ -1,7 +1,7 @@
 //! The reader tuned by hand answers as the independent one does: number, place and every number of
 //! the lent table.
 
-use galebonnet_tests::generate::typical::{largest_block, typical_block, worst_blocks};
+use galebonnet_tests::generate::typical::{full_block, largest_block, typical_block, worst_blocks};
 use galebonnet_tests::generate::{self, Random};
 use galebonnet_tests::{independent, tuned};
 use std::collections::BTreeSet;
@@ -47,6 +47,7 @@ fn on_the_benchmarks_blocks() {
         same("typical, damaged", &generate::damaged(&mut random, &block), 3856);
     }
     same("largest", &largest_block(), 3856);
+    same("full", &full_block(), 3856);
     for (name, block) in worst_blocks() {
         same(name, &block, 3856);
     }

@@ -56,8 +56,15 @@ fn written(random: &mut Random, mut content: Structure) -> Vec<u8> {
     buffer
 }
 
-/// Every list full, every row in order.
+/// 256 atoms and 512 bonds, every row in order.
 pub fn largest_block() -> Vec<u8> {
+    let mut block = Crowded::with_atoms(256);
+    block.bonds = two_ends(256, 512, "S");
+    block.block()
+}
+
+/// Every list full, every row in order.
+pub fn full_block() -> Vec<u8> {
     let mut block = Crowded::with_atoms(256);
     block.bonds = two_ends(256, 512, "S");
     block.charges = each_atom(64, |atom| format!("+1 {atom}"));
