@@ -21,7 +21,7 @@ use Rattle.format.specs.Reading.{strict, State, over, start, finished, spanOf, 
 use Rattle.format.specs.Table.{encode, readAnswer, tableOf, readResult}
 use Rattle.demands.specs.Accepted.{listRows, toldOf, Obeys}
 use Rattle.demands.specs.ReadAs.{idOn, idAs, structureIn, spansIn}
-use Rattle.demands.proofs.Refused.{long-read}
+use Rattle.format.proofs.RefusedLaws.{long-read}
 use Rattle.demands.proofs.AcceptedSteps.{afters, along, keeps, when, acceptedAs, read-is}
 use Rattle.demands.proofs.AcceptedRows.{afters-rows}
 use Rattle.demands.proofs.AcceptedOnce.{id-is}
