@@ -1,0 +1,2 @@
+// Whether a table is sound: document 01, "Refusal numbers" (21).
+mod numbered; // numbered.rt: the order of charge and radical rows
