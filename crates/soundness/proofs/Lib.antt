@@ -12,3 +12,4 @@ pub mod LaidLaws
 pub mod RegionsLaws
 pub mod TestLaws
 pub mod RegionTests
+pub mod TextSpanLaws

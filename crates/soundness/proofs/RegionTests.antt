@@ -1,14 +1,17 @@
 -- The regions' definitions over what the code has in hand: the counts that it read, the parts that it lent. Assumes nothing.
-use Prim.Native.Nat.{ℕ, _+_, _-_, _*_, _≤_}
+use Prim.Native.Nat.{ℕ, _+_, _-_, _*_, _≤_, _<_}
 use mathlib.Core.Path.{_≡_, refl, sym, ap, _∙_}
 use mathlib.Core.Bool.{Bool, true, false, not, _&&_}
 use mathlib.Core.List.{List}
 use native.Mathlib.Omega.{arith}
 use lib.ListN.{length, take, drop}
 use lib.IntN.{ℤ}
+use lib.Dec.{leb}
+use borrow.Author.Tests.{lt-leb, le-leb}
 use Rattle.lists.specs.Lists.{all, rowsFrom}
 use Rattle.lists.proofs.Bools.{torn, and-parts}
-use Rattle.format.specs.Table.{cell, soundNumbers}
+use Rattle.format.specs.Bytes.{Bytes}
+use Rattle.format.specs.Table.{cell, spansOf, soundNumbers, textOk, sound}
 use Rattle.soundness.specs.Numbered.{columnOf, inTurn}
 use Rattle.soundness.specs.Sounding.{unused, countsFine, headerFine, atomFine, atomsFine, recordsFine, keyedFine, bondsFine, centresFine, pairsFine, valueFine, valuesFine, chargesFine, radicalsFine, listsFine, regionsFine}
 use Rattle.soundness.proofs.HeaderLaws.{Header, counts-parts}
@@ -78,3 +81,12 @@ module _ (t : List ℤ) where
     pub header-of : headerFine t ≡ true → Header t long
     unfolding headerFine
     header-of h = counts-parts t long (and-parts (countsFine t) _ h .0)
+
+  -- and with the texts: a table that is too short is not sound
+  module _ (b : Bytes) where
+    pub sound-short : length t < 3856 → false ≡ (leb 3856 (length t) && sound 103 t b)
+    sound-short h = rw (lt-leb 3856 (length t) h)
+
+    pub sound-long : 3856 ≤ length t → (soundNumbers 103 t && all (textOk b) (spansOf t)) ≡ (leb 3856 (length t) && sound 103 t b)
+    unfolding sound
+    sound-long h = rw (le-leb 3856 (length t) h)
