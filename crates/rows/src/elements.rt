@@ -72,7 +72,7 @@ fn among(element: u32, last: u32) -> u32
 }
 
 // The element, 1 to `last`, of a symbol of one letter (second 0) or two; 0 where there is none. "Symbols are those of elements 1 (H) to 103 (Lr)."
-pub fn element_of(first: u8, second: u8, last: u32) -> u32
+fn element_of(first: u8, second: u8, last: u32) -> u32
     ensures { λ r. ⌜ r ≡ placeOf 1 (letters (symOf false 0 first second)) (take last symbols) ⌝ }
 {
     if first < 65 {
