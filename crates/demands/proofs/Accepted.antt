@@ -25,7 +25,8 @@ use Rattle.format.proofs.AcceptedLaws.{block-refuses}
 use Rattle.format.proofs.TotalLaws.{agree-every, every-agree}
 use Rattle.format.proofs.Computing.{computing}
 use Rattle.demands.specs.Examples.{neon, wrongNeon}
-use Rattle.demands.specs.Accepted.{told, unparted, titleFirst, behindEnd, labels, outOfOrder, named, numbered, ownRule, atomOn, rowOf, entriesOn, valueRule, furtherRule, atomOf, atomRows, listRows, formulaIn, Obeys, _exactlyWhen_}
+use Rattle.demands.specs.Accepted.{told, unparted, titleFirst, behindEnd, labels, outOfOrder, named, numbered, ownRule, valueRule, furtherRule, atomOf, atomRows, listRows, formulaIn, Obeys, _exactlyWhen_}
+use Rattle.demands.proofs.AcceptedContents.{atoms-are, rows-are, formula-are, atomOn, rowOf, entriesOn}
 use Rattle.format.proofs.RefusedLaws.{long-read}
 use Rattle.demands.proofs.AcceptedSteps.{afters, along, along-and, along-all, keeps, when, acceptedAs, read-is, listPasses, onLine, titledAt, closedAt, nextAtom, roomAt, listedAt, apartAt, heldAt, present, complete}
 use Rattle.demands.proofs.AcceptedLines.{placed, placed-ordered, titled-first, closed-is, own-is}
@@ -273,12 +274,39 @@ module _ (k : ℕ) (b : Bytes) where
   abbrev lines : List Bytes
   lines = cut b
 
+  -- what the tests say, in the words of `Obeys`
+  pub says-atoms : afters k start lines .body .atoms ≡ map (atomOf k) (atomRows b)
+  says-atoms = last-atoms k lines ∙ ap (map (atomOf k)) (sym (atoms-are b))
+
+  says-formula : along k (placed k) start lines ≡ true → afters k start lines .formula ≡ formulaIn k b
+  says-formula h = last-formula k lines h ∙ sym (formula-are k b)
+
+  says-present : present (afters k start lines) ≡ (all (named (labels lines)) (2 ∷ 3 ∷ 4 ∷ 5 ∷ []) && not (eqb (length (atomRows b)) 0))
+  says-present = last-present k lines ∙ ap (λ (rs : List AtomRow). all (named (labels lines)) (2 ∷ 3 ∷ 4 ∷ 5 ∷ []) && not (eqb (length rs) 0)) (sym (atoms-are b))
+
+  says-numbers : along k (atomTest nextAtom) start lines ≡ numbered 1 (atomRows b)
+  says-numbers = numbers-is k lines ∙ ap (numbered 1) (sym (atoms-are b))
+
+  says-room : along k (atomTest roomAt) start lines ≡ leb (0 + length (atomRows b)) 256
+  says-room = room-is k lines ∙ ap (λ (rs : List AtomRow). leb (0 + length rs) 256) (sym (atoms-are b))
+
+  says-listed : (l : ListOf) → along k (placed k) start lines ≡ true → along k (rowTest k l (listedRow k)) start lines ≡ all (λ r. all (within 1 (length (atomRows b))) (r .atoms)) (listRows l b)
+  says-listed l h =
+      listed-is k lines l h ∙ ap (λ (rs : List AtomRow). all (λ r. all (within 1 (length rs)) (r .atoms)) (rowsHere k lines l)) (sym (atoms-are b))
+      ∙ ap (all (λ r. all (within 1 (length (atomRows b))) (r .atoms))) (sym (rows-are l b))
+
+  says-apart : (l : ListOf) → along k (rowTest k l (freeRow k l)) start lines ≡ not (pairs (clash l) (listRows l b))
+  says-apart l = apart-is k lines l ∙ ap (λ (rs : List Row). not (pairs (clash l) rs)) (sym (rows-are l b))
+
+  says-held : (l : ListOf) → along k (rowTest k l (heldRow k l)) start lines ≡ leb (length (kept (meets l) [] (listRows l b))) (most l)
+  says-held l = held-is k lines l ∙ ap (λ (rs : List Row). leb (length (kept (meets l) [] rs)) (most l)) (sym (rows-are l b))
+
   obeys : length b ≤ 32768 → Twelve k start lines → over (afters k start lines .running) ≡ true → Obeys k b
   obeys short x o =
       let e : any endLine lines ≡ true = end-found k lines o in
       let c : complete (afters k start lines) ≡ true = sym (end-is k start lines (start-over k lines) (x .closed) e .0) ∙ x .end in
       let d : (present (afters k start lines) ≡ true) × (agree (afters k start lines .formula) (entriesOf (afters k start lines .body .atoms)) ≡ true) = and-parts _ _ c in
-      let p : (all (named (labels lines)) (2 ∷ 3 ∷ 4 ∷ 5 ∷ []) ≡ true) × (not (eqb (length (atomRows b)) 0) ≡ true) = and-parts _ _ (sym (last-present k lines) ∙ d .0) in
+      let p : (all (named (labels lines)) (2 ∷ 3 ∷ 4 ∷ 5 ∷ []) ≡ true) × (not (eqb (length (atomRows b)) 0) ≡ true) = and-parts _ _ (sym (says-present) ∙ d .0) in
       record {
         short = short;
         allowed-bytes = sym (along-all k (all allowed) start lines) ∙ x .fine;
@@ -286,14 +314,14 @@ module _ (k : ℕ) (b : Bytes) where
         labels-parted = not-true (any (λ l. unparted (lineOf l)) lines) (sym (parted-is k lines) ∙ x .parted);
         labels-ordered = not-true (pairs outOfOrder (labels lines)) (sym (placed-ordered k lines) ∙ x .ordered-labels);
         lines-fine = sym (fine-is k lines) ∙ x .own;
-        atoms-numbered = sym (numbers-is k lines) ∙ x .next;
-        atoms-held = omega (arith, leb-true (0 + length (atomRows b)) 256 (sym (room-is k lines) ∙ x .room));
+        atoms-numbered = sym (says-numbers) ∙ x .next;
+        atoms-held = omega (arith, leb-true (0 + length (atomRows b)) 256 (sym (says-room) ∙ x .room));
         atoms-there = some-there (length (atomRows b)) (not-true (eqb (length (atomRows b)) 0) (p .1));
-        rows-listed = λ l. sym (listed-is k lines l (x .ordered-labels)) ∙ each-listed k lines (x .listed) l;
-        rows-apart = λ l. not-true (pairs (clash l) (listRows l b)) (sym (apart-is k lines l) ∙ each-apart k lines (x .apart) l);
-        rows-held = λ l. leb-true (length (kept (meets l) [] (listRows l b))) (most l) (sym (held-is k lines l) ∙ each-held k lines (x .held) l);
+        rows-listed = λ l. sym (says-listed l (x .ordered-labels)) ∙ each-listed k lines (x .listed) l;
+        rows-apart = λ l. not-true (pairs (clash l) (listRows l b)) (sym (says-apart l) ∙ each-apart k lines (x .apart) l);
+        rows-held = λ l. leb-true (length (kept (meets l) [] (listRows l b))) (most l) (sym (says-held l) ∙ each-held k lines (x .held) l);
         required = p .0;
-        totals = λ i. sym (ap (total i) (last-formula k lines (x .ordered-labels))) ∙ agree-every _ _ (d .1) i ∙ ap (λ (as′ : List Atom). total i (entriesOf as′)) (last-atoms k lines);
+        totals = λ i. sym (ap (total i) (says-formula (x .ordered-labels))) ∙ agree-every _ _ (d .1) i ∙ ap (λ (as′ : List Atom). total i (entriesOf as′)) (says-atoms);
         end-there = e;
         end-last = sym (blank-is k lines) ∙ x .closed;
       }
@@ -306,12 +334,12 @@ module _ (k : ℕ) (b : Bytes) where
   twelve-kept y =
       let ord : along k (placed k) start lines ≡ true = placed-ordered k lines ∙ not-of-false _ (y .labels-ordered) in
       let cl : along k closedAt start lines ≡ true = blank-is k lines ∙ y .end-last in
-      let fo : afters k start lines .formula ≡ formulaIn k b = last-formula k lines ord in
-      let at : afters k start lines .body .atoms ≡ map (atomOf k) (atomRows b) = last-atoms k lines in
+      let fo : afters k start lines .formula ≡ formulaIn k b = says-formula ord in
+      let at : afters k start lines .body .atoms ≡ map (atomOf k) (atomRows b) = says-atoms in
       let ag : agree (afters k start lines .formula) (entriesOf (afters k start lines .body .atoms)) ≡ true =
       every-agree _ _ (λ i. ap (total i) fo ∙ y .totals i ∙ sym (ap (λ (as′ : List Atom). total i (entriesOf as′)) at)) in
       let pr : present (afters k start lines) ≡ true =
-      last-present k lines ∙ and-both _ _ (y .required) (not-of-false (eqb (length (atomRows b)) 0) (ne-eqb (length (atomRows b)) 0 (λ e. omega (arith, y .atoms-there, e)))) in
+      says-present ∙ and-both _ _ (y .required) (not-of-false (eqb (length (atomRows b)) 0) (ne-eqb (length (atomRows b)) 0 (λ e. omega (arith, y .atoms-there, e)))) in
       record {
         fine = along-all k (all allowed) start lines ∙ y .allowed-bytes;
         titled = titled-back k lines (y .title-first);
@@ -319,11 +347,11 @@ module _ (k : ℕ) (b : Bytes) where
         ordered-labels = ord;
         closed = cl;
         own = fine-is k lines ∙ y .lines-fine;
-        next = numbers-is k lines ∙ y .atoms-numbered;
-        room = room-is k lines ∙ le-leb (0 + length (atomRows b)) 256 (omega (arith, y .atoms-held));
-        listed = every-listed k lines (λ l. listed-is k lines l ord ∙ y .rows-listed l);
-        apart = every-apart k lines (λ l. apart-is k lines l ∙ not-of-false _ (y .rows-apart l));
-        held = every-held k lines (λ l. held-is k lines l ∙ le-leb _ (most l) (y .rows-held l));
+        next = says-numbers ∙ y .atoms-numbered;
+        room = says-room ∙ le-leb (0 + length (atomRows b)) 256 (omega (arith, y .atoms-held));
+        listed = every-listed k lines (λ l. says-listed l ord ∙ y .rows-listed l);
+        apart = every-apart k lines (λ l. says-apart l ∙ not-of-false _ (y .rows-apart l));
+        held = every-held k lines (λ l. says-held l ∙ le-leb _ (most l) (y .rows-held l));
         end = end-is k start lines (start-over k lines) cl (y .end-there) .0 ∙ and-both _ _ pr ag;
       }
 

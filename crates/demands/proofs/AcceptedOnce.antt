@@ -13,8 +13,9 @@ use Rattle.lists.proofs.PartLaws.{flat-nil, flat-one}
 use Rattle.format.specs.Bytes.{Bytes}
 use Rattle.format.specs.Labels.{Holds, Label, label, known, misplaced, Line, Plain, Unparted, Labelled, lineOf}
 use Rattle.format.specs.Reading.{State, past, opened}
-use Rattle.demands.specs.Accepted.{Told, Value, Further, toldAs, told, labelOn, entriesOn}
-use Rattle.demands.specs.ReadAs.{idOn, idAs}
+use Rattle.demands.specs.Accepted.{Told, Value, Further, toldAs, told, labelOn}
+use Rattle.demands.specs.ReadAs.{idAs}
+use Rattle.demands.proofs.AcceptedContents.{entriesOn, idOn}
 use Rattle.demands.proofs.AcceptedSteps.{afterValue, afterFurther, afterAs, after, afters, along, placedAt}
 use Rattle.demands.proofs.AcceptedState.{formulaHeld, value-formula, value-entries, further-formula, idHeld, value-quiet-id, value-id, further-id}
 use Rattle.demands.proofs.AcceptedLines.{label-passed, placed}

@@ -17,7 +17,8 @@ use Rattle.format.specs.Bytes.{Bytes, within, gap}
 use Rattle.format.specs.Labels.{ListOf, Holds, Text, Version, Formula, BlockId, Atoms, Rows, End, Skipped, Label, label, known, misplaced, Line, Plain, Unparted, Labelled, lineOf, hasCode, endLine}
 use Rattle.format.specs.Rows.{Row, AtomRow}
 use Rattle.format.specs.Reading.{State, past, opened, over, atomCount}
-use Rattle.demands.specs.Accepted.{Value, Further, toldAs, runsOn, told, labelOn, labels, atomIn, atomOn, rowIn, rowOf}
+use Rattle.demands.specs.Accepted.{Value, Further, toldAs, runsOn, told, labelOn, labels}
+use Rattle.demands.proofs.AcceptedContents.{atomIn, atomOn, rowIn, rowOf}
 use Rattle.demands.proofs.AcceptedSteps.{afterValue, afterFurther, afterAs, after, afters, along, placedAt, closedAt, complete, endAt, blank-plain}
 use Rattle.demands.proofs.AcceptedState.{after-running, after-seen}
 use Rattle.demands.proofs.AcceptedLines.{label-passed, placed, over-after, closed-behind, over-label}

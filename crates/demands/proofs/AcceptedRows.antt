@@ -22,9 +22,10 @@ use Rattle.format.specs.Rows.{Row, AtomRow, atomShape, rowShape}
 use Rattle.format.specs.Structure.{Atom, rowsOf, most, meets, clash}
 use Rattle.format.specs.Reading.{State, atomCount, ordered}
 use Rattle.format.proofs.OrderLaws.{rows-accept}
-use Rattle.demands.specs.Accepted.{Told, Value, Further, toldAs, runsOn, told, listed, rowOn, atomIn, atomOn, sameList, rowIn, rowOf, numbered, atomOf}
+use Rattle.demands.specs.Accepted.{Told, Value, Further, toldAs, runsOn, told, listed, rowOn, numbered, atomOf}
+use Rattle.demands.proofs.AcceptedContents.{same-list, list-same, atomIn, atomOn, sameList, rowIn, rowOf}
 use Rattle.demands.proofs.AcceptedSteps.{after, afters, along, passing, rowPasses, atomPasses, listPasses, onLine, nextAtom, roomAt}
-use Rattle.demands.proofs.AcceptedState.{after-running, after-atoms, after-rows, same-list, list-same}
+use Rattle.demands.proofs.AcceptedState.{after-running, after-atoms, after-rows}
 
 -- ONE LINE HAS AT MOST ONE ROW
 few-listed : {A : Type 0} (o : Option A) → length (listed o) ≤ 1

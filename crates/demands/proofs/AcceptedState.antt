@@ -17,8 +17,9 @@ use Rattle.format.specs.Rows.{Row, AtomRow, number, field, atomShape, rowShape}
 use Rattle.format.specs.Formula.{Counted, formulaShape}
 use Rattle.format.specs.Structure.{Atom, Structure, rowsOf, meets, Entry}
 use Rattle.format.specs.Reading.{State, Prose, withBody, withFormula, withText, withAtoms, withId, withRows, ordered, opened}
-use Rattle.demands.specs.Accepted.{toldAs, runsOn, labelOn, listed, rowOn, atomIn, atomOn, sameList, rowIn, rowOf, entriesAs, entriesIn, atomOf}
-use Rattle.demands.specs.ReadAs.{idIn, idAs}
+use Rattle.demands.specs.Accepted.{toldAs, runsOn, labelOn, listed, rowOn, entriesAs, atomOf}
+use Rattle.demands.specs.ReadAs.{idAs}
+use Rattle.demands.proofs.AcceptedContents.{same-list, list-same, atomIn, atomOn, sameList, rowIn, rowOf, entriesIn, idIn}
 use Rattle.demands.proofs.AcceptedSteps.{addAll, addAtom, chosen, addRow, addFormula, addId, afterValue, afterFurther, afterAs, after}
 
 -- WHAT NO LINE'S CONTENT CHANGES: the record that runs, the labels seen
@@ -141,40 +142,6 @@ module _ (k : ℕ) where
   after-atoms st l = atoms-as st l (lineOf l)
 
 -- THE ROWS OF A LIST, those that repeat another dropped, the latest first
-pub same-list : (l m : ListOf) → sameList l m ≡ true → l ≡ m
-same-list Bonds Bonds h = refl
-same-list Bonds Charges h = torn false h refl
-same-list Bonds Radicals h = torn false h refl
-same-list Bonds Centres h = torn false h refl
-same-list Bonds Pairs h = torn false h refl
-same-list Charges Bonds h = torn false h refl
-same-list Charges Charges h = refl
-same-list Charges Radicals h = torn false h refl
-same-list Charges Centres h = torn false h refl
-same-list Charges Pairs h = torn false h refl
-same-list Radicals Bonds h = torn false h refl
-same-list Radicals Charges h = torn false h refl
-same-list Radicals Radicals h = refl
-same-list Radicals Centres h = torn false h refl
-same-list Radicals Pairs h = torn false h refl
-same-list Centres Bonds h = torn false h refl
-same-list Centres Charges h = torn false h refl
-same-list Centres Radicals h = torn false h refl
-same-list Centres Centres h = refl
-same-list Centres Pairs h = torn false h refl
-same-list Pairs Bonds h = torn false h refl
-same-list Pairs Charges h = torn false h refl
-same-list Pairs Radicals h = torn false h refl
-same-list Pairs Centres h = torn false h refl
-same-list Pairs Pairs h = refl
-
-pub list-same : (l : ListOf) → sameList l l ≡ true
-list-same Bonds = refl
-list-same Charges = refl
-list-same Radicals = refl
-list-same Centres = refl
-list-same Pairs = refl
-
 rows-with : (l m : ListOf) (rs : List Row) (s : Structure) → rowsOf l (withRows m rs s) ≡ elim (sameList l m) [ true ↦ rs | false ↦ rowsOf l s ]
 unfolding rowsOf withRows
 rows-with Bonds Bonds rs s = refl

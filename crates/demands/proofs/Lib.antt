@@ -18,6 +18,7 @@ pub mod WayBackMembers
 pub mod WayBackDecoded
 pub mod WayBackSound
 pub mod AcceptedSteps
+pub mod AcceptedContents
 pub mod AcceptedState
 pub mod AcceptedLines
 pub mod AcceptedRows

@@ -1,7 +1,7 @@
 -- What an accepted block is read as: its atoms in order, the rows of each list without repeats and sorted, its block id, and its texts where their records
 -- stand; so the table, number for number, is said of the block's lines alone. Document 01, "The structure table". Assumes nothing.
 use Prim.Native.Nat.{ℕ, _≤_}
-use mathlib.Core.Path.{_≡_, refl, ap, _∙_}
+use mathlib.Core.Path.{_≡_, refl, sym, ap, _∙_}
 use mathlib.Core.Bool.{Bool, true, false, _&&_}
 use mathlib.Core.Option.{some}
 use mathlib.Core.List.{List, [], _++_, map}
@@ -20,13 +20,14 @@ use Rattle.format.specs.Structure.{Atom, Structure, rowsOf, meets, rowBefore}
 use Rattle.format.specs.Reading.{strict, State, over, start, finished, spanOf, Outcome, Accepted, Refused, Reading, Read, Unread, readingOf, readLines, readBlock}
 use Rattle.format.specs.Table.{encode, readAnswer, tableOf, readResult}
 use Rattle.demands.specs.Accepted.{listRows, toldOf, Obeys}
-use Rattle.demands.specs.ReadAs.{idOn, idAs, structureIn, spansIn}
+use Rattle.demands.specs.ReadAs.{idsIn, idAs, structureIn, spansIn}
+use Rattle.demands.proofs.AcceptedContents.{rowOf, rows-are, ids-are}
 use Rattle.format.proofs.RefusedLaws.{long-read}
 use Rattle.demands.proofs.AcceptedSteps.{afters, along, keeps, when, acceptedAs, read-is}
 use Rattle.demands.proofs.AcceptedRows.{afters-rows}
 use Rattle.demands.proofs.AcceptedOnce.{id-is}
 use Rattle.demands.proofs.AcceptedTexts.{texts-are}
-use Rattle.demands.proofs.Accepted.{start-rows, last-atoms, twelve-kept, all-kept, end-reached}
+use Rattle.demands.proofs.Accepted.{start-rows, says-atoms, twelve-kept, all-kept, end-reached}
 
 -- a structure by its parts
 abbrev built : List Atom → (ListOf → List Row) → ℕ → Structure
@@ -56,16 +57,17 @@ module _ (k : ℕ) (b : Bytes) (y : Obeys k b) where
 
   last-rows : (l : ListOf) → rowsOf l (last .body) ≡ kept (meets l) [] (listRows l b)
   unfolding start
-  last-rows l = afters-rows k l start (cut b) ∙ ap (λ (rs : List Row). kept (meets l) rs (listRows l b)) (start-rows l)
+  last-rows l =
+      afters-rows k l start (cut b) ∙ ap (λ (rs : List Row). kept (meets l) rs (flat (rowOf l) (toldOf b))) (start-rows l) ∙ ap (kept (meets l) []) (sym (rows-are l b))
 
-  last-id : last .body .id ≡ idAs (flat idOn (toldOf b))
+  last-id : last .body .id ≡ idAs (idsIn b)
   unfolding start
-  last-id = id-is k start (cut b) refl (twelve-kept k b y .ordered-labels)
+  last-id = id-is k start (cut b) refl (twelve-kept k b y .ordered-labels) ∙ ap idAs (sym (ids-are b))
 
   structure-is : finished (last .body) ≡ structureIn k b
   structure-is =
       finished-is (last .body)
-      ∙ rw (last-atoms k (cut b), last-rows Bonds, last-rows Charges, last-rows Radicals, last-rows Centres, last-rows Pairs, last-id)
+      ∙ rw (says-atoms k b, last-rows Bonds, last-rows Charges, last-rows Radicals, last-rows Centres, last-rows Pairs, last-id)
 
   spans-are : map spanOf (last .texts) ≡ spansIn b
   spans-are = ap (map spanOf) (texts-are k (cut b) (twelve-kept k b y .ordered-labels) (twelve-kept k b y .parted))

@@ -1,6 +1,6 @@
 -- When a block is accepted, said of its lines and rows alone, without a reader's state: document 01, "Lines and labels", "Rows" and "Refusal numbers", each
 -- sentence one field of `Obeys`. Where the reading judges line by line, this judges the whole block. Assumes nothing.
-use Prim.Native.Nat.{ℕ, suc, _≤_, _<_}
+use Prim.Native.Nat.{ℕ, suc, _+_, _≤_, _<_}
 use mathlib.Core.Path.{_≡_}
 use mathlib.Core.Bool.{Bool, true, false, _&&_, _||_, not}
 use mathlib.Core.Option.{Option, none, some}
@@ -65,68 +65,51 @@ outOfOrder x y = eqb (x .code) (y .code) || ltb (y .high) (x .low)
 abbrev pub named : List Label → (code : ℕ) → Bool
 named xs c = any (λ x. eqb (x .code) c) xs
 
--- ROWS. The row on a line that is parted into its fields; "lines then blank are skipped"
+-- RECORDS of one kind, the three texts being one: their values; their values and further lines
+abbrev pub place : ListOf → ℕ
+place l = elim l [ Bonds ↦ 0 | Charges ↦ 1 | Radicals ↦ 2 | Centres ↦ 3 | Pairs ↦ 4 ]
+
+abbrev pub kind : Holds → ℕ
+kind (Text i) = 0
+kind Version = 1
+kind Formula = 2
+kind BlockId = 3
+kind Atoms = 4
+kind End = 5
+kind Skipped = 6
+kind (Rows l) = 7 + place l
+
+abbrev pub onlyIf : Bool → Bytes → List Bytes
+onlyIf true l = l ∷ []
+onlyIf false l = []
+
+abbrev pub valueIn : Holds → Told → List Bytes
+valueIn h (Value g v) = onlyIf (eqb (kind h) (kind g)) v
+valueIn h (Further g l) = []
+
+abbrev pub lineIn : Holds → Told → List Bytes
+lineIn h (Value g v) = onlyIf (eqb (kind h) (kind g)) v
+lineIn h (Further g l) = onlyIf (eqb (kind h) (kind g)) l
+
+-- ROWS: "lines then blank are skipped", and each other line has its row, if it has the shape of one
 abbrev pub listed : {A : Type 0} → Option A → List A
 listed none = []
 listed (some a) = a ∷ []
 
-abbrev pub rowOn : {A : Type 0} → (List Bytes → Option A) → List Bytes → List A
+abbrev pub rowOn : {A : Type 0} → (List Bytes → Option A) → (fields : List Bytes) → List A
 rowOn shape [] = []
 rowOn shape (f ∷ fs) = listed (shape (f ∷ fs))
 
-abbrev pub atomIn : Holds → Bytes → List AtomRow
-atomIn (Text i) l = []
-atomIn Version l = []
-atomIn Formula l = []
-atomIn BlockId l = []
-atomIn Atoms l = rowOn atomShape (fields (strip l))
-atomIn (Rows m) l = []
-atomIn End l = []
-atomIn Skipped l = []
+abbrev pub rowsBy : {A : Type 0} → (List Bytes → Option A) → (lines : List Bytes) → List A
+rowsBy shape ls = flat (λ l. rowOn shape (fields (strip l))) ls
 
-abbrev pub atomOn : Told → List AtomRow
-atomOn (Value h v) = atomIn h v
-atomOn (Further h l) = atomIn h l
-
--- the rows of one list, each with its atoms in ascending order
-abbrev pub place : ListOf → ℕ
-place l = elim l [ Bonds ↦ 0 | Charges ↦ 1 | Radicals ↦ 2 | Centres ↦ 3 | Pairs ↦ 4 ]
-
-abbrev pub sameList : ListOf → ListOf → Bool
-sameList l m = eqb (place l) (place m)
-
-abbrev pub rowIn : ListOf → Holds → Bytes → List Row
-rowIn l (Text i) b = []
-rowIn l Version b = []
-rowIn l Formula b = []
-rowIn l BlockId b = []
-rowIn l Atoms b = []
-rowIn l (Rows m) b = elim (sameList l m) [ true ↦ map ordered (rowOn (rowShape m) (fields (strip b))) | false ↦ [] ]
-rowIn l End b = []
-rowIn l Skipped b = []
-
-abbrev pub rowOf : ListOf → Told → List Row
-rowOf l (Value h v) = rowIn l h v
-rowOf l (Further h b) = rowIn l h b
-
--- the entries of the formula
+-- the entries of a formula, an atom
 abbrev pub entriesAs : (k : ℕ) → Option (List Counted) → List Entry
 entriesAs k none = []
 entriesAs k (some cs) = map (λ c. entry (isotope k (c .symbol)) (c .count)) cs
 
-abbrev pub entriesIn : (k : ℕ) → Holds → Bytes → List Entry
-entriesIn k (Text i) v = []
-entriesIn k Version v = []
-entriesIn k Formula v = entriesAs k (formulaShape (strip v))
-entriesIn k BlockId v = []
-entriesIn k Atoms v = []
-entriesIn k (Rows m) v = []
-entriesIn k End v = []
-entriesIn k Skipped v = []
-
-abbrev pub entriesOn : (k : ℕ) → Told → List Entry
-entriesOn k (Value h v) = entriesIn k h v
-entriesOn k (Further h l) = []
+abbrev pub atomOf : (k : ℕ) → AtomRow → Atom
+atomOf k r = record { kind = isotope k (r .symbol); hydrogens = r .hydrogens }
 
 -- THE RULES THAT A LINE KEEPS OR BREAKS BY ITSELF. A row has its shape, and its values are in their ranges
 abbrev pub fits : {A : Type 0} → (A → Bool) → Option A → Bool
@@ -186,21 +169,18 @@ unfoldable pub numbered : (from : ℕ) → List AtomRow → Bool
 numbered n [] = true
 numbered n (r ∷ rs) = eqb (r .number) n && numbered (suc n) rs
 
-abbrev pub atomOf : (k : ℕ) → AtomRow → Atom
-atomOf k r = record { kind = isotope k (r .symbol); hydrogens = r .hydrogens }
-
--- THE BLOCK: its lines, its atom rows, the rows of each list, the formula's entries
+-- THE BLOCK: its lines as they count, its atom rows, the rows of each list with their atoms ascending, the formula's entries
 abbrev pub toldOf : Bytes → List Told
 toldOf b = told Skipped (cut b)
 
 abbrev pub atomRows : Bytes → List AtomRow
-atomRows b = flat atomOn (toldOf b)
+atomRows b = rowsBy atomShape (flat (lineIn Atoms) (toldOf b))
 
 abbrev pub listRows : ListOf → Bytes → List Row
-listRows l b = flat (rowOf l) (toldOf b)
+listRows l b = map ordered (rowsBy (rowShape l) (flat (lineIn (Rows l)) (toldOf b)))
 
 abbrev pub formulaIn : (k : ℕ) → Bytes → List Entry
-formulaIn k b = flat (entriesOn k) (toldOf b)
+formulaIn k b = flat (λ v. entriesAs k (formulaShape (strip v))) (flat (valueIn Formula) (toldOf b))
 
 pub record Obeys (k : ℕ) (b : Bytes) : Type 0 where
   -- "The longest block has 32,768 bytes." "Allowed bytes: 9, 10, 13 and 32 to 126."

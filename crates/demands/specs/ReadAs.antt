@@ -14,22 +14,11 @@ use Rattle.format.specs.Rows.{Row, number, field}
 use Rattle.format.specs.Structure.{Structure, meets, rowBefore}
 use Rattle.format.specs.Reading.{Prose, prose, Span, spanOf}
 use Rattle.format.specs.Walking.{untilLabel, valueOf}
-use Rattle.demands.specs.Accepted.{Told, Value, Further, listed, toldOf, atomRows, listRows, atomOf}
+use Rattle.demands.specs.Accepted.{listed, valueIn, toldOf, atomRows, listRows, atomOf}
 
 -- "block id (0 none)"
-abbrev pub idIn : Holds → Bytes → List ℕ
-idIn (Text i) v = []
-idIn Version v = []
-idIn Formula v = []
-idIn BlockId v = listed (number (field 0 (fields (strip v))))
-idIn Atoms v = []
-idIn (Rows m) v = []
-idIn End v = []
-idIn Skipped v = []
-
-abbrev pub idOn : Told → List ℕ
-idOn (Value h v) = idIn h v
-idOn (Further h l) = []
+abbrev pub idsIn : Bytes → List ℕ
+idsIn b = flat (λ v. listed (number (field 0 (fields (strip v))))) (flat (valueIn BlockId) (toldOf b))
 
 abbrev pub idAs : List ℕ → ℕ
 idAs [] = 0
@@ -48,7 +37,7 @@ structureIn k b = record {
   radicals = rowsInOrder Radicals b;
   centres = rowsInOrder Centres b;
   pairs = rowsInOrder Pairs b;
-  id = idAs (flat idOn (toldOf b));
+  id = idAs (idsIn b);
 }
 
 -- "TITLE, ORIGIN and OWNER are texts: from `=` to the end of the record": the place of the first byte behind the `=` of text i's label line, and the record's
