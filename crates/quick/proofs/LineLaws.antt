@@ -9,7 +9,7 @@ use lib.ListN.{length, take, drop, length-append, length-drop}
 use lib.Seq.{take-append-seam}
 use lib.Dec.{eqb}
 use borrow.Author.Tests.{not-true}
-use Rattle.lists.specs.Lists.{all, any}
+use Rattle.lists.specs.Lists.{isNil, all, any}
 use Rattle.lists.proofs.Bools.{and-left-false, or-neither}
 use Rattle.lists.proofs.ListLaws.{all-nil, all-both, all-parts, all-append-both, any-nil, any-neither, any-append}
 use Rattle.format.specs.Bytes.{Bytes, headIs, allowed, cut, ink, fields, dollar, strip, hash}
@@ -117,6 +117,9 @@ module _ (block : Bytes) (at next : ℕ) (w : Bytes) (ws : List Bytes) (returned
   line-is : lineAt block at next ≡ line
   line-is = ap (λ (n : ℕ). take n (drop at block)) size ∙ ap (take (length line)) stands ∙ take-append-seam line (drop next block)
 
+  pub line-reads : fields (lineAt block at next) ≡ w ∷ ws
+  line-reads = ap fields line-is ∙ word-reads w ws _ h rest
+
   pub one-line : OneLine block at next
   one-line = record {
     low = low;
@@ -125,7 +128,5 @@ module _ (block : Bytes) (at next : ℕ) (w : Bytes) (ws : List Bytes) (returned
     fine = ap (all allowed) line-is ∙ word-fine w ws _ h rest;
     plain = ap lineOf line-is ∙ word-plain w _ h;
     kept = ap strip line-is ∙ strip-none line (word-uncommented w ws _ h rest) ∙ sym line-is;
+    inked = ap isNil line-reads;
   }
-
-  pub line-reads : fields (lineAt block at next) ≡ w ∷ ws
-  line-reads = ap fields line-is ∙ word-reads w ws _ h rest

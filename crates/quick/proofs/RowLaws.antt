@@ -18,7 +18,11 @@ use Rattle.scan.specs.declared.symbols.Mark.{Mark}
 use Rattle.scan.specs.ShownSymbols.{symOfMark}
 use Rattle.rows.specs.Answers.{atomRowOf}
 use Rattle.quick.specs.Pieces.{Word, Words, later, feed, NumberIs, EndIs, KindIs, TailIs}
-use Rattle.quick.specs.Quick.{BondIs, AtomIs}
+use Rattle.quick.specs.Quick.{BondIs, ShowsBond, AtomIs, ShowsAtom}
+use Rattle.quick.specs.declared.atom.QuickAtom.{QuickAtom}
+use Rattle.quick.specs.declared.atom.QuickAtom.the-variants as A
+use Rattle.quick.specs.declared.bond.QuickBond.{QuickBond}
+use Rattle.quick.specs.declared.bond.QuickBond.the-variants as B
 use Rattle.quick.proofs.PieceLaws.{byte-at}
 use Rattle.quick.proofs.LineLaws.{one-line, line-reads}
 
@@ -61,7 +65,7 @@ module _ (s : Bytes) (at first from second place kind next : ℕ) (n : NumberIs 
 
 -- AN ATOM: its symbol w from `from` to `to`
 module _ (s : Bytes) (at number from to hydrogens next : ℕ) (w : Bytes) (mark : Mark) (n : NumberIs s at number from) (is : drop from s ≡ w ++ drop to s) (fine : Word w)
-    (says : symbol w ≡ some (symOfMark mark)) (bare : mark .mass ≡ 0) (between : from < to) (t : TailIs s to hydrogens next) (end : next ≤ length s) where
+    (says : symbol w ≡ some (symOfMark mark)) (plain : mark .caret ≡ false) (bare : mark .mass ≡ 0) (between : from < to) (t : TailIs s to hydrogens next) (end : next ≤ length s) where
   atom-is : drop at s ≡ n .word ++ later (w ∷ t .words) (feed (t .returned) ++ drop next s)
   unfolding later
   atom-is = n .is ∙ ap (λ (r : Bytes). n .word ++ (32 ∷ r)) (is ∙ ap (λ (r : Bytes). w ++ r) (t .is))
@@ -77,6 +81,7 @@ module _ (s : Bytes) (at number from to hydrogens next : ℕ) (w : Bytes) (mark 
   atom-row = record {
     line = one-line s at next (n .word) (w ∷ t .words) (t .returned) before end (n .fine) (fine, t .fine) atom-is;
     shape = ap atomShape (line-reads s at next (n .word) (w ∷ t .words) (t .returned) before end (n .fine) (fine, t .fine) atom-is) ∙ atom-shape;
+    plain = plain;
     bare = bare;
     small = n .small;
     few = t .small;
@@ -99,11 +104,18 @@ module _ (s : Bytes) (at number from hydrogens next : ℕ) (n : NumberIs s at nu
   pub atom-one : TailIs s (from + 1) hydrogens next → AtomIs s at number (lettersOf one 0) hydrogens next
   atom-one t =
       atom-row s at number from (from + 1) hydrogens next (one ∷ []) (lettersOf one 0) n (byte-at s from (from + 1) (omega (arith, n .high)) refl) (letter-word one (upper-printed one u))
-      (symbol-plain one [] (ne-eqb one 94 (no-caret one u)) ∙ lettered-one false 0 one u) refl (omega arith) t (omega (arith, n .high, t .high))
+      (symbol-plain one [] (ne-eqb one 94 (no-caret one u)) ∙ lettered-one false 0 one u) refl refl (omega arith) t (omega (arith, n .high, t .high))
 
   pub atom-two : lower two ≡ true → TailIs s (from + 2) hydrogens next → AtomIs s at number (lettersOf one two) hydrogens next
   atom-two l t =
       atom-row s at number from (from + 2) hydrogens next (one ∷ two ∷ []) (lettersOf one two) n
       (byte-at s from (from + 1) (omega (arith, n .high)) refl ∙ ap (λ (r : Bytes). one ∷ r) (byte-at s (from + 1) (from + 2) (omega (arith, n .high)) (omega arith)))
       (record { some = omega arith; seen = all-both (within 37 126) one (two ∷ []) (upper-printed one u) (letter-word two (lower-printed two l) .seen) })
-      (symbol-plain one (two ∷ []) (ne-eqb one 94 (no-caret one u)) ∙ lettered-two false 0 one two u l) refl (omega arith) t (omega (arith, n .high, t .high))
+      (symbol-plain one (two ∷ []) (ne-eqb one 94 (no-caret one u)) ∙ lettered-two false 0 one two u l) refl refl (omega arith) t (omega (arith, n .high, t .high))
+
+-- WHAT AN ANSWER'S VALUES ARE
+pub bond-told : (block : Bytes) (at : ℕ) (r : QuickBond) → ShowsBond block at r → (first second kind next : ℕ) → r ≡ B.Values first second kind next → BondIs block at first second kind next
+bond-told block at r h first second kind next e = rw e at h
+
+pub atom-told : (block : Bytes) (at : ℕ) (r : QuickAtom) → ShowsAtom block at r → (number : ℕ) (mark : Mark) (hydrogens next : ℕ) → r ≡ A.Values number mark hydrogens next → AtomIs block at number mark hydrogens next
+atom-told block at r h number mark hydrogens next e = rw e at h

@@ -3,12 +3,12 @@
 -- Assumes nothing.
 use Prim.Native.Nat.{ℕ, _-_, _≤_, _<_}
 use mathlib.Core.Path.{_≡_}
-use mathlib.Core.Bool.{true}
+use mathlib.Core.Bool.{true, false}
 use mathlib.Core.Option.{some}
 use mathlib.Core.List.{[], _∷_}
 use lib.ListN.{length, take, drop}
 use lib.IntN.{pos}
-use Rattle.lists.specs.Lists.{all}
+use Rattle.lists.specs.Lists.{isNil, all}
 use Rattle.format.specs.Bytes.{Bytes, allowed, cut, fields, strip}
 use Rattle.format.specs.Labels.{Bonds, Plain, lineOf}
 use Rattle.format.specs.Rows.{row, atomShape, rowShape}
@@ -23,7 +23,7 @@ use Rattle.quick.specs.declared.bond.QuickBond.the-variants as B
 abbrev pub lineAt : Bytes → (at next : ℕ) → Bytes
 lineAt block at next = take (next - at) (drop at block)
 
--- they are one line, of allowed bytes, no label line, without comment
+-- they are one line, of allowed bytes, no label line, without comment, and not blank
 pub record OneLine (block : Bytes) (at next : ℕ) : Type 0 where
   pub low : at < next
   pub high : next ≤ length block
@@ -31,6 +31,7 @@ pub record OneLine (block : Bytes) (at next : ℕ) : Type 0 where
   pub fine : all allowed (lineAt block at next) ≡ true
   pub plain : lineOf (lineAt block at next) ≡ Plain
   pub kept : strip (lineAt block at next) ≡ lineAt block at next
+  pub inked : isNil (fields (lineAt block at next)) ≡ false
 
 -- A ROW OF BONDLIST: "two atoms and S, D, T, Q or A"
 pub record BondIs (block : Bytes) (at first second kind next : ℕ) : Type 0 where
@@ -48,6 +49,7 @@ ShowsBond block at B.Not = Unit {0}
 pub record AtomIs (block : Bytes) (at number : ℕ) (mark : Mark) (hydrogens next : ℕ) : Type 0 where
   pub line : OneLine block at next
   pub shape : atomShape (fields (lineAt block at next)) ≡ some (atomRowOf number mark hydrogens)
+  pub plain : mark .caret ≡ false
   pub bare : mark .mass ≡ 0
   pub small : number < 1000
   pub few : hydrogens < 10
