@@ -9,7 +9,7 @@ use Rattle.lists.specs.Lists.{all, any}
 use Rattle.format.specs.Bytes.{Bytes, bytes, cut, whole}
 use Rattle.format.specs.Labels.{endLine}
 use Rattle.format.specs.Structure.{Isotope, Entry, total, agree, Structure, wellFormed}
-use Rattle.format.specs.Table.{zeros, textFine, sound, readAnswer, readResult}
+use Rattle.format.specs.Table.{zeros, encode, textFine, sound, readAnswer, readResult}
 use Rattle.format.specs.Writing.{canonical, formOf, unwritten, writeResult}
 use Rattle.format.specs.Walking.{block, piece, pieces, answers}
 use Rattle.format.proofs.RefusedLaws as short
@@ -20,6 +20,10 @@ use Rattle.demands.specs.Neighbours.{neighbours}
 use Rattle.demands.specs.Examples.{formicInput, formicWritten, formicTable, neon, wrongNeon}
 use Rattle.demands.specs.Stretches.{closing, opening, moved, _then_, Chain, steps}
 use Rattle.demands.specs.WayBack.{ReadBack, TableBack, WrittenAgain, OneBlock}
+use Rattle.demands.specs.Accepted.{Obeys, _exactlyWhen_}
+use Rattle.demands.specs.ReadAs.{structureIn, spansIn}
+use Rattle.demands.proofs.Accepted as accepted
+use Rattle.demands.proofs.ReadAs as read
 use Rattle.demands.proofs.Worked as worked
 use Rattle.demands.proofs.Refused as refused
 use Rattle.demands.proofs.Stretches as stretches
@@ -40,7 +44,20 @@ short-untouched = short.short-untouched
 pub refused-write : (k : ℕ) (t : List ℤ) (b buffer : Bytes) → (writeResult k t b buffer .number ≡ 0 → ⊥) → writeResult k t b buffer ≡ unwritten (writeResult k t b buffer .number) buffer
 refused-write = refused.refused-write
 
--- DEMAND 2, what stands of it so far
+-- DEMAND 2
+-- a block is accepted exactly when each line breaks no rule of its own, the labels stand in order, no two rows of one list clash, the lists keep their limits, the
+-- required records are there, the formula's totals are the atoms' for every element and mass, and one END line stands there with only blanks behind it
+pub accepted-iff : (k : ℕ) (b : Bytes) (t : List ℤ) → 3856 ≤ length t → (readResult k b t .number ≡ 0) exactlyWhen Obeys k b
+accepted-iff = accepted.accepted-iff
+
+-- and its table is then, number for number, that of its atoms in order, of the rows of each list sorted and without repeats, of its block id and of its texts
+pub table-is : (k : ℕ) (b : Bytes) (t : List ℤ) → 3856 ≤ length t → Obeys k b → readResult k b t ≡ readAnswer 0 0 (encode (structureIn k b) (spansIn b) ++ drop 3856 t)
+table-is = read.table-is
+
+-- there are blocks that obey and blocks that do not: the neon block, the one with `2 Ne`
+pub obeying-met : Obeys 103 (bytes neon) × (Obeys 103 (bytes wrongNeon) → ⊥)
+obeying-met = accepted.neon-obeys
+
 -- "At END, for every element and mass, the formula's total over all fragments equals the atoms listed": the finite test is that rule
 pub totals-agree : (es fs : List Entry) → agree es fs ≡ true → (i : Isotope) → total i es ≡ total i fs
 totals-agree es fs = totals.agree-every es fs

@@ -17,4 +17,14 @@ pub mod WayBackWalk
 pub mod WayBackMembers
 pub mod WayBackDecoded
 pub mod WayBackSound
+pub mod AcceptedSteps
+pub mod AcceptedContents
+pub mod AcceptedState
+pub mod AcceptedLines
+pub mod AcceptedRows
+pub mod AcceptedOrder
+pub mod AcceptedOnce
+pub mod AcceptedTexts
+pub mod Accepted
+pub mod ReadAs
 pub mod Demands

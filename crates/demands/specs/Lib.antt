@@ -5,3 +5,5 @@ pub mod Neighbours
 pub mod Examples
 pub mod Stretches
 pub mod WayBack
+pub mod Accepted
+pub mod ReadAs

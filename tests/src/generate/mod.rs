@@ -13,6 +13,7 @@ pub mod random;
 pub mod spelling;
 pub mod structures;
 pub mod tables;
+pub mod typical;
 
 pub use blocks::sound_block;
 pub use damage::damaged;
