@@ -76,3 +76,24 @@ fn a_table_keeps_what_is_not_its_own() {
         assert!(short.iter().all(|&number| number == 5));
     }
 }
+
+#[test]
+fn the_benchmarks_blocks_are_what_they_are_called() {
+    let mut random = Random::new(5);
+    for _ in 0..2_000 {
+        let block = generate::typical::typical_block(&mut random);
+        let mut table = vec![0; 3856];
+        assert_eq!(read(&block, &mut table).number, 0, "refused: {}", block.escape_ascii());
+        assert!((6..=24).contains(&table[0]), "{} atoms", table[0]);
+    }
+    let mut table = vec![0; 3856];
+    assert_eq!(read(&generate::typical::largest_block(), &mut table).number, 0);
+    assert_eq!(table[..6], [256, 512, 0, 0, 0, 0]);
+    assert_eq!(read(&generate::typical::full_block(), &mut table).number, 0);
+    assert_eq!(table[..6], [256, 512, 64, 64, 128, 128]);
+    let worst = generate::typical::worst_blocks();
+    let answers: Vec<(usize, u64)> =
+        worst.iter().map(|(_, block)| (block.len(), check(block) >> 32)).collect();
+    assert_eq!(answers.iter().map(|answer| answer.1).collect::<Vec<u64>>(), [0, 0, 13, 15, 0]);
+    assert!(answers[1..].iter().all(|answer| answer.0 > 15_000 && answer.0 <= 32_768), "{answers:?}");
+}

@@ -27,7 +27,7 @@ use Rattle.format.proofs.Computing.{computing}
 use Rattle.demands.specs.Examples.{neon, wrongNeon}
 use Rattle.demands.specs.Accepted.{told, unparted, titleFirst, behindEnd, labels, outOfOrder, named, numbered, ownRule, valueRule, furtherRule, atomOf, atomRows, listRows, formulaIn, Obeys, _exactlyWhen_}
 use Rattle.demands.proofs.AcceptedContents.{atoms-are, rows-are, formula-are, atomOn, rowOf, entriesOn}
-use Rattle.demands.proofs.Refused.{long-read}
+use Rattle.format.proofs.RefusedLaws.{long-read}
 use Rattle.demands.proofs.AcceptedSteps.{afters, along, along-and, along-all, keeps, when, acceptedAs, read-is, listPasses, onLine, titledAt, closedAt, nextAtom, roomAt, listedAt, apartAt, heldAt, present, complete}
 use Rattle.demands.proofs.AcceptedLines.{placed, placed-ordered, titled-first, closed-is, own-is}
 use Rattle.demands.proofs.AcceptedRows.{atomTest, numbers-are, atoms-roomy, afters-atoms, along-imply, along-every, line-each, line-every, rowTest, freeRow, heldRow, rows-free, rows-held}

@@ -12,6 +12,7 @@ use Rattle.format.specs.Structure.{Isotope, Entry, total, agree, Structure, wel
 use Rattle.format.specs.Table.{zeros, encode, textFine, sound, readAnswer, readResult}
 use Rattle.format.specs.Writing.{canonical, formOf, unwritten, writeResult}
 use Rattle.format.specs.Walking.{block, piece, pieces, answers}
+use Rattle.format.proofs.RefusedLaws as short
 use Rattle.format.proofs.TotalLaws as totals
 use Rattle.demands.specs.Cases.{judged}
 use Rattle.demands.specs.Starred.{starred}
@@ -37,7 +38,7 @@ pub refused-zero : (k : ℕ) (b : Bytes) (t : List ℤ) → 3856 ≤ length t �
 refused-zero = refused.refused-zero
 
 pub short-untouched : (k : ℕ) (b : Bytes) (t : List ℤ) → length t < 3856 → readResult k b t ≡ readAnswer 1 0 t
-short-untouched = refused.short-untouched
+short-untouched = short.short-untouched
 
 -- "A refused writing changes nothing.": it answers 0 bytes and leaves the buffer as lent
 pub refused-write : (k : ℕ) (t : List ℤ) (b buffer : Bytes) → (writeResult k t b buffer .number ≡ 0 → ⊥) → writeResult k t b buffer ≡ unwritten (writeResult k t b buffer .number) buffer

@@ -6,20 +6,11 @@ use mathlib.Core.List.{List, _++_}
 use lib.ListN.{length, drop}
 use lib.IntN.{ℤ}
 use lib.Dec.{ltb}
-use borrow.Author.Tests.{lt-ltb, le-ltb}
 use Rattle.format.specs.Bytes.{Bytes}
 use Rattle.format.specs.Reading.{Reading, Read, Unread, strict, readBlock}
 use Rattle.format.specs.Table.{zeros, sound, ReadResult, readAnswer, tableOf, readResult}
+use Rattle.format.proofs.RefusedLaws.{long-read}
 use Rattle.format.specs.Writing.{WriteResult, unwritten, writtenAs, formOf, writeResult}
-
-pub short-untouched : (k : ℕ) (b : Bytes) (t : List ℤ) → length t < 3856 → readResult k b t ≡ readAnswer 1 0 t
-unfolding readResult
-short-untouched k b t h = rw (lt-ltb (length t) 3856 h, readResult)
-
--- a table that is long enough
-pub long-read : (k : ℕ) (b : Bytes) (t : List ℤ) → 3856 ≤ length t → readResult k b t ≡ tableOf (drop 3856 t) (readBlock (strict k) b)
-unfolding readResult
-long-read k b t h = rw (le-ltb (length t) 3856 h, readResult)
 
 pub refused-zero : (k : ℕ) (b : Bytes) (t : List ℤ) → 3856 ≤ length t → (readResult k b t .number ≡ 0 → ⊥) → readResult k b t .table ≡ zeros 3856 ++ drop 3856 t
 refused-zero k b t h refused = go (readBlock (strict k) b) refl

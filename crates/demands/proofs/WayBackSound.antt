@@ -25,7 +25,7 @@ use Rattle.demands.proofs.WayBackLists.{lists-flat}
 use Rattle.demands.proofs.WayBack.{Fine, fine-structure, way-back}
 use Rattle.demands.proofs.WayBackMembers.{spread-rows}
 use Rattle.demands.proofs.WayBackDecoded.{row-wide, bond-back, centre-back, pair-back, part-long, spread-fine, recordsOf, records-taken, records-atoms, records-long, charge-marks, radical-marks, cells-long, values-charges, values-radicals, values-taken, no-group}
-use Rattle.demands.proofs.Refused.{long-read}
+use Rattle.format.proofs.RefusedLaws.{long-read}
 use Rattle.demands.proofs.WayBackTables.{form-written}
 
 -- a structure from its seven parts

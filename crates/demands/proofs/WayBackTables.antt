@@ -19,7 +19,7 @@ use Rattle.format.specs.Reading.{Span}
 use Rattle.format.specs.Table.{counts, encode, decode, spanAt, spansOf, sameNumber, soundNumbers, textFine, textAt, spanOk, textOk, sound, tableOf}
 use Rattle.format.specs.Writing.{formOf, WriteResult, writeResult}
 use Rattle.demands.specs.WayBack.{ReadBack, TableBack, withoutTexts, writtenForm}
-use Rattle.demands.proofs.Refused.{long-read}
+use Rattle.format.proofs.RefusedLaws.{long-read}
 use Rattle.demands.proofs.WayBack.{way-back}
 
 -- A SOUND TABLE is that of its structure, with texts that are fine

@@ -51,11 +51,6 @@ pub cut-nil : cut [] ≡ []
 unfolding cut
 cut-nil = refl
 
--- (lists)
-pub concat-cons : (l : Bytes) (ls : List Bytes) → concat (l ∷ ls) ≡ l ++ concat ls
-unfolding concat
-concat-cons l ls = refl
-
 -- cutting loses nothing
 pub consTo-concat : (b : ℕ) (ls : List Bytes) → concat (consTo b ls) ≡ b ∷ concat ls
 unfolding consTo concat

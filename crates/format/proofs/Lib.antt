@@ -8,6 +8,7 @@ pub mod ByteLaws
 pub mod FieldLaws
 pub mod TextLaws
 pub mod AcceptedLaws
+pub mod RefusedLaws
 pub mod WalkLaws
 pub mod NumberLaws
 pub mod SymbolLaws

@@ -18,7 +18,8 @@ use Rattle.lists.proofs.PairLaws.{bytes-equal}
 use Rattle.format.specs.Bytes.{Bytes, same, gap, allowed, consTo, cut, lineLen, wholeFrom, whole, lead, keep, trimEnd, trim, hash, isLabel, unlabelled}
 use Rattle.format.specs.Table.{textFine}
 use Rattle.format.specs.Writing.{valued}
-use Rattle.format.proofs.CutLaws.{feedless, notFeed, concat-cut, concat-cons, cut-hit, cut-miss, cut-nil, cut-first, cut-append, consTo-cons}
+use Rattle.lists.proofs.PartLaws.{concat-cons}
+use Rattle.format.proofs.CutLaws.{feedless, notFeed, concat-cut, cut-hit, cut-miss, cut-nil, cut-first, cut-append, consTo-cons}
 use Rattle.format.proofs.ByteLaws.{space-gap, feed-gap, allowed-gap, unlabelled-cons}
 
 -- LEAD AND TRIM, clause by clause

@@ -1,3 +1,2 @@
 -- The laws of this crate, file by file. Assumes nothing.
 pub mod PackLaws
-pub mod PlaceLaws

@@ -19,7 +19,6 @@ use Rattle.transfer.specs.declared.walks.Walked.{Walked}
 use Rattle.transfer.specs.Shown.{shown}
 use Rattle.transfer.specs.Texts.{titleStart, Titled}
 use Rattle.transfer.proofs.NameLaws.{title-size}
-use Rattle.host.proofs.PlaceLaws.{result-placed}
 use Rattle.host.specs.Packed.{packedWalk, packedSpan, packedTitle}
 
 -- the walk's answer, from the variant it is
@@ -33,13 +32,6 @@ module _ (x : ReadResult) (r k : Answer) (t : List ℤ) (h : shownRead r t ≡ x
 
   pub read-table : shownRead k t .table ≡ x .table
   read-table = ap (λ (y : ReadResult). y .table) (ap (λ (a : Answer). shownRead a t) (sym e) ∙ h)
-
-  read-place : shownRead k t .place ≡ x .place
-  read-place = ap (λ (y : ReadResult). y .place) (ap (λ (a : Answer). shownRead a t) (sym e) ∙ h)
-
--- and its place fits beside the number
-pub place-fits : (n : ℕ) (b : Bytes) (before : List ℤ) (r k : Answer) (t : List ℤ) → shownRead r t ≡ readResult n b before → r ≡ k → shownRead k t .place ≤ 32768
-place-fits n b before r k t h e = omega (arith, read-place (readResult n b before) r k t h e, result-placed n b before)
 
 -- a title of some bytes
 span-some : (p : ℕ) (t : Bytes) → 0 < length t → packedSpan (spanFrom p t) ≡ packed p (length t)

@@ -40,3 +40,4 @@ pub mod LabelTurnLaws
 pub mod AtomLineLaws
 pub mod BlockLaws
 pub mod AnsweredLaws
+pub mod PlacedLaws

@@ -1,7 +1,7 @@
 // The element and the mass of a symbol: document 01, "Rows", ATOMLIST.
 ghost use mathlib.Core.Path.{_≡_};
 ghost use mathlib.Core.Bool.{false};
-ghost use Prim.Native.Nat.{_<_};
+ghost use Prim.Native.Nat.{_*_, _<_};
 ghost use lib.ListN.{take};
 ghost use Rattle.format.specs.Rows.{symOf};
 ghost use Rattle.format.specs.Structure.{symbols, placeOf, letters, isotope, massOk, heavy};
@@ -15,6 +15,45 @@ use scan::symbols::Mark;
 pub struct Isotope {
     pub element: u32,
     pub mass: u32,
+}
+
+// "Symbols are those of elements 1 (H) to 103 (Lr)": those of one letter, A to Z; 0 where no element has it. A table is put on the stack where it is read, and most
+// atoms have one letter, so that they are not looked up among the 702.
+const LETTERS: [u8; 26] = [
+    0,
+    5,
+    6,
+    0,
+    0,
+    9,
+    0,
+    1,
+    53,
+    0,
+    19,
+    0,
+    0,
+    7,
+    8,
+    15,
+    0,
+    0,
+    16,
+    0,
+    92,
+    23,
+    74,
+    0,
+    39,
+    0,
+];
+
+// The element whose one letter has the number k, 0 for A.
+fn letter_at(k: usize) -> u32
+    requires { ⌜ k < 26 ⌝ }
+    ensures { λ r. ⌜ r ≡ placeOf 1 (spelling (k * 27)) symbols ⌝ }
+{
+    LETTERS[k] as u32
 }
 
 // The element whose letters have the number k: the upper-case letter's place times 27, and the lower-case letter's (0 where there is none).
@@ -33,7 +72,7 @@ fn among(element: u32, last: u32) -> u32
 }
 
 // The element, 1 to `last`, of a symbol of one letter (second 0) or two; 0 where there is none. "Symbols are those of elements 1 (H) to 103 (Lr)."
-pub fn element_of(first: u8, second: u8, last: u32) -> u32
+fn element_of(first: u8, second: u8, last: u32) -> u32
     ensures { λ r. ⌜ r ≡ placeOf 1 (letters (symOf false 0 first second)) (take last symbols) ⌝ }
 {
     if first < 65 {
@@ -42,9 +81,9 @@ pub fn element_of(first: u8, second: u8, last: u32) -> u32
     if 90 < first {
         return 0;
     }
-    let row = (first as usize - 65) * 27;
+    let letter = first as usize - 65;
     if second == 0 {
-        return among(entry_at(row), last);
+        return among(letter_at(letter), last);
     }
     if second < 97 {
         return 0;
@@ -52,7 +91,7 @@ pub fn element_of(first: u8, second: u8, last: u32) -> u32
     if 122 < second {
         return 0;
     }
-    among(entry_at(row + (second as usize - 96)), last)
+    among(entry_at(letter * 27 + (second as usize - 96)), last)
 }
 
 // Hydrogen of a mass that has a letter of its own, "and take no `^`".

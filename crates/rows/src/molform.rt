@@ -35,7 +35,7 @@ fn lower_refusal(one: u32, other: u32) -> u32
 }
 
 // What is wrong with an entry: 10, "number outside its range", 12, "unknown symbol", or 0: "a symbol and an optional count 1 to 9,999".
-pub fn entry_verdict(mark: Mark, count: u32, last: u32) -> u32
+fn entry_verdict(mark: Mark, count: u32, last: u32) -> u32
     ensures { λ r. ⌜ r ≡ entriesVerdict last (counted (symOfMark mark) count ∷ []) ⌝ }
 {
     if !mass_fits(mark) {

@@ -13,7 +13,7 @@ use lib.Dec.{eqb}
 use borrow.Author.Tests.{eq-eqb, ne-eqb, eqb-true}
 use Rattle.lists.proofs.Bools.{and-left-false, and-right-false, eqb-symm}
 use Rattle.format.specs.Bytes.{Bytes, hash, isLabel}
-use Rattle.format.specs.Labels.{Parts, NoEquals, Parted, longer, parts, Label, label, known, lookup, Line, Plain, Unparted, Labelled, partsLine, lineOf, hasCode, titleLine, endLine}
+use Rattle.format.specs.Labels.{Parts, NoEquals, Parted, longer, parts, Label, label, known, lookup, Line, Plain, Unparted, Labelled, partsLine, lineOf, hasCode, titleLine}
 use Rattle.format.proofs.ByteLaws.{parts-hit, parts-miss, label-at, label-at-end}
 use Rattle.scan.specs.declared.labels.LineKind.{LineKind}
 use Rattle.scan.specs.declared.labels.LineKind.the-variants as K
@@ -131,7 +131,3 @@ answer-code k l (K.Labelled c at) p h = code-told k c known p h
 pub title-told : (l : Bytes) (r k : LineKind) → ShowsLine l r → r ≡ k → codeIs 1 k ≡ titleLine l
 unfolding titleLine byCode known label
 title-told l r k h e = ap (codeIs 1) (sym e) ∙ answer-code 1 l r (omega arith) refl ∙ ap (hasCode 1) (h .is)
-
-pub end-told : (l : Bytes) (r k : LineKind) → ShowsLine l r → r ≡ k → codeIs 13 k ≡ endLine l
-unfolding endLine byCode known label
-end-told l r k h e = ap (codeIs 13) (sym e) ∙ answer-code 13 l r (omega arith) refl ∙ ap (hasCode 13) (h .is)

@@ -20,7 +20,7 @@ pub fn is_gap(b: u8) -> bool
 }
 
 // "Allowed bytes: 9, 10, 13 and 32 to 126."
-pub fn is_allowed(b: u8) -> bool
+pub(crate) fn is_allowed(b: u8) -> bool
     ensures { λ r. ⌜ r ≡ allowed b ⌝ }
 {
     if is_gap(b) {

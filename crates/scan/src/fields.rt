@@ -10,7 +10,7 @@ pub struct Field {
 }
 
 // Where the gaps that start at `at` end.
-pub fn gap_end(line: &[u8], at: usize) -> usize
+pub(crate) fn gap_end(line: &[u8], at: usize) -> usize
     ensures { λ r. ⌜ RunEnd gap (now (line .entry)) at r ⌝ }
 {
     let mut i = at;
@@ -24,7 +24,7 @@ pub fn gap_end(line: &[u8], at: usize) -> usize
 }
 
 // Where the field that starts at `at` ends.
-pub fn ink_end(line: &[u8], at: usize) -> usize
+fn ink_end(line: &[u8], at: usize) -> usize
     ensures { λ r. ⌜ RunEnd ink (now (line .entry)) at r ⌝ }
 {
     let mut i = at;

@@ -33,11 +33,11 @@ pub fn bond_kind(word: &[u8]) -> Numeral
         return Numeral::Wrong;
     }
     match word[0] {
-        83 => Numeral::Value(1),
-        68 => Numeral::Value(2),
-        84 => Numeral::Value(3),
-        81 => Numeral::Value(4),
-        65 => Numeral::Value(5),
+        83 => Numeral::Value(1), // S
+        68 => Numeral::Value(2), // D
+        84 => Numeral::Value(3), // T
+        81 => Numeral::Value(4), // Q
+        65 => Numeral::Value(5), // A
         _ => Numeral::Wrong,
     }
 }
@@ -50,8 +50,8 @@ pub fn hand(word: &[u8]) -> Numeral
         return Numeral::Wrong;
     }
     match word[0] {
-        80 => Numeral::Value(1),
-        77 => Numeral::Value(2),
+        80 => Numeral::Value(1), // P of a centre
+        77 => Numeral::Value(2), // M of a centre
         _ => Numeral::Wrong,
     }
 }
@@ -64,9 +64,9 @@ pub fn pair_hand(word: &[u8]) -> Numeral
         return Numeral::Wrong;
     }
     match word[0] {
-        48 => Numeral::Value(0),
-        80 => Numeral::Value(1),
-        77 => Numeral::Value(2),
+        48 => Numeral::Value(0), // neither
+        80 => Numeral::Value(1), // P of a pair
+        77 => Numeral::Value(2), // M of a pair
         _ => Numeral::Wrong,
     }
 }

@@ -3,7 +3,7 @@ ghost use mathlib.Core.Path.{_≡_};
 ghost use mathlib.Core.List.{[], _∷_};
 ghost use Prim.Native.Nat.{_<_};
 ghost use Rattle.format.specs.Bytes.{isIn};
-ghost use Rattle.format.specs.Labels.{titleLine, endLine};
+ghost use Rattle.format.specs.Labels.{titleLine};
 ghost use Rattle.scan.specs.Keys.{grown, nextKey, placeOfKey, keys};
 ghost use Rattle.scan.specs.ShownLines.{ShowsLine};
 
@@ -113,16 +113,5 @@ pub fn is_title_line(line: &[u8]) -> bool
         LineKind::Plain => false,
         LineKind::Unparted => false,
         LineKind::Labelled(code, _) => code == 1,
-    }
-}
-
-// Whether the line is an END line.
-pub fn is_end_line(line: &[u8]) -> bool
-    ensures { λ r. ⌜ r ≡ endLine (now (line .entry)) ⌝ }
-{
-    match line_kind(line) {
-        LineKind::Plain => false,
-        LineKind::Unparted => false,
-        LineKind::Labelled(code, _) => code == 13,
     }
 }

@@ -50,14 +50,14 @@ pub fn number(word: &[u8]) -> Numeral
 }
 
 // The digits of a mass: "before it optionally `^` and 1 to 3 digits"
-pub fn mass(word: &[u8]) -> Numeral
+pub(crate) fn mass(word: &[u8]) -> Numeral
     ensures { λ r. ⌜ Shows 1000 (digitsOf 3 (now (word .entry))) r ⌝ }
 {
     digits(word, 3)
 }
 
 // Where the digits that start at `at` end.
-pub fn digit_end(word: &[u8], at: usize) -> usize
+pub(crate) fn digit_end(word: &[u8], at: usize) -> usize
     ensures { λ r. ⌜ RunEnd digit (now (word .entry)) at r ⌝ }
 {
     let mut i = at;

@@ -3,7 +3,7 @@ ghost use Rattle.scan.specs.Trims.{Lead, Trimmed};
 use crate::fields::Field;
 
 // How many bytes are cut in front.
-pub fn lead(text: &[u8]) -> usize
+fn lead(text: &[u8]) -> usize
     ensures { λ r. ⌜ Lead (now (text .entry)) r ⌝ }
 {
     crate::fields::gap_end(text, 0)

@@ -22,7 +22,7 @@ use Rattle.scan.specs.NextFields.{fieldIn}
 use Rattle.scan.specs.Trims.{Trimmed}
 use Rattle.transfer.specs.Skipping.{skipped}
 use Rattle.transfer.specs.Texts.{textTo, TextEnd, ValueAt, Titled}
-use Rattle.transfer.proofs.SkipLaws.{skip-on}
+use Rattle.transfer.proofs.SkipLaws.{skip-plain}
 
 -- WHERE A TEXT ENDS: at the first label line
 module _ (l : Bytes) (ls : List Bytes) where
@@ -43,8 +43,8 @@ unfolding textTo
 text-passes at l ls e = omega (arith, ap length (until-plain l ls e), length-append l (untilLabel ls))
 
 module _ (s : Bytes) (at : ℕ) where
-  pub text-skip : (r : ℕ) → r ≡ at + skipped true (drop at s) → textTo at (cut (drop at s)) ≡ textTo r (cut (drop r s))
-  text-skip r e = skip-on textTo text-passes s at r e
+  pub text-skip : (r : ℕ) → r ≡ at + skipped false true (drop at s) → textTo at (cut (drop at s)) ≡ textTo r (cut (drop r s))
+  text-skip r e = skip-plain textTo text-passes s at r e
 
   pub text-end : length s ≤ at → textTo at (cut (drop at s)) ≡ at
   unfolding textTo
@@ -68,8 +68,8 @@ module _ (s : Bytes) (at : ℕ) where
         let m : at + length (take (e - at) (drop at s)) ≡ e = omega (arith, length-take-le (e - at) (drop at s) k) in
         ap (textTo at) lines-are ∙ text-passes at (take (e - at) (drop at s)) (cut (drop e s)) f ∙ ap (λ (n : ℕ). textTo n (cut (drop e s))) m
 
-    pub text-goes : isLabel (take (e - at) (drop at s)) ≡ false → (n : ℕ) → n ≡ e + skipped true (drop e s) → textTo at (cut (drop at s)) ≡ textTo n (cut (drop n s))
-    text-goes f n r = text-on f ∙ skip-on textTo text-passes s e n r
+    pub text-goes : isLabel (take (e - at) (drop at s)) ≡ false → (n : ℕ) → n ≡ e + skipped false true (drop e s) → textTo at (cut (drop at s)) ≡ textTo n (cut (drop n s))
+    text-goes f n r = text-on f ∙ skip-plain textTo text-passes s e n r
 
 -- a text is the bytes up to where it ends
 until-take : (ls : List Bytes) → untilLabel ls ≡ take (length (untilLabel ls)) (concat ls)

@@ -50,14 +50,14 @@ module _ (s : Bytes) (place from i e code : ℕ) (h : i < length s) (q : e ≡ i
     pub block-at-end : (code ≡ 1 → ⊥) → code ≡ 13 → ahead s (inBlock place) from ≡ Found (piece block place e)
     block-at-end t u = g ∙ block-end s i e h q place (title-not _ code k t) (end-is _ code k u)
 
-    pub block-goes : (n : ℕ) → (code ≡ 1 → ⊥) → (code ≡ 13 → ⊥) → n ≡ e + skipped true (drop e s) → ahead s (inBlock place) from ≡ ahead s (inBlock place) n
+    pub block-goes : (n : ℕ) → (code ≡ 1 → ⊥) → (code ≡ 13 → ⊥) → n ≡ e + skipped true true (drop e s) → ahead s (inBlock place) from ≡ ahead s (inBlock place) n
     block-goes n t u r = g ∙ block-on s i e h q place (title-not _ code k t) (end-not _ code k u) ∙ skip-block s place e n r
 
   module _ (g : ahead s (inStray place) from ≡ ahead s (inStray place) i) where
     pub stray-at-title : code ≡ 1 → ahead s (inStray place) from ≡ Found (piece stray place i)
     stray-at-title t = g ∙ stray-title s i e h q place (title-is _ code k t)
 
-    pub stray-goes : (n : ℕ) → (code ≡ 1 → ⊥) → n ≡ e + skipped true (drop e s) → ahead s (inStray place) from ≡ ahead s (inStray place) n
+    pub stray-goes : (n : ℕ) → (code ≡ 1 → ⊥) → n ≡ e + skipped true true (drop e s) → ahead s (inStray place) from ≡ ahead s (inStray place) n
     stray-goes n t r = g ∙ stray-on s i e h q place (title-not _ code k t) ∙ skip-stray s place e n r
 
 -- ONE STEP

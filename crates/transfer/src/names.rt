@@ -23,13 +23,13 @@ fn is_label(line: &[u8]) -> bool
 fn text_end(block: &[u8], at: usize) -> usize
     ensures { λ r. ⌜ TextEnd (now (block .entry)) at r ⌝ }
 {
-    let mut i = crate::skips::skip_to_hash(block, at);
+    let mut i = crate::skips::skip_to_label(block, at, false);
     while i < block.len() {
         let next = scan::lines::line_end(block, i);
         if is_label(&block[i..next]) {
             return i;
         }
-        i = crate::skips::skip_to_hash(block, next);
+        i = crate::skips::skip_to_label(block, next, false);
     }
     i
 }

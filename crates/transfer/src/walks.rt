@@ -29,7 +29,7 @@ fn label_code(line: &[u8]) -> u8
 fn block_end(file: &[u8], place: usize, at: usize) -> usize
     ensures { λ r. ⌜ ahead (now (file .entry)) (inBlock place) at ≡ Found (piece block place r) ⌝ }
 {
-    let mut i = crate::skips::skip_to_hash(file, at);
+    let mut i = crate::skips::skip_to_label(file, at, true);
     while i < file.len() {
         let end = scan::lines::line_end(file, i);
         let code = label_code(&file[i..end]);
@@ -39,7 +39,7 @@ fn block_end(file: &[u8], place: usize, at: usize) -> usize
         if code == 13 {
             return end;
         }
-        i = crate::skips::skip_to_hash(file, end);
+        i = crate::skips::skip_to_label(file, end, true);
     }
     i
 }
@@ -48,13 +48,13 @@ fn block_end(file: &[u8], place: usize, at: usize) -> usize
 fn stray_end(file: &[u8], place: usize, at: usize) -> usize
     ensures { λ r. ⌜ ahead (now (file .entry)) (inStray place) at ≡ Found (piece stray place r) ⌝ }
 {
-    let mut title = crate::skips::skip_to_hash(file, at);
+    let mut title = crate::skips::skip_to_label(file, at, true);
     while title < file.len() {
         let next = scan::lines::line_end(file, title);
         if label_code(&file[title..next]) == 1 {
             return title;
         }
-        title = crate::skips::skip_to_hash(file, next);
+        title = crate::skips::skip_to_label(file, next, true);
     }
     title
 }

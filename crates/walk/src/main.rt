@@ -19,42 +19,30 @@ fn print_behind(n: u64) {
     io::print_decimal(1, n);
 }
 
-// A count of the table behind a space; the counts of a table are not negative.
-fn print_count(table: &[i32], at: usize)
-    requires { ⌜ at < length (now table) ⌝ }
-{
-    let count = table[at];
-    if count < 0 {
-        return;
-    }
-    print_behind(count as u64);
+// The number and the place of a reading, then the atoms and bonds of its table.
+fn print_reading(number: u32, place: usize, table: &[i32]) {
+    print_behind(number as u64);
+    print_behind(place as u64);
+    print_behind(cells::cell(table, 0) as u64);
+    print_behind(cells::cell(table, 1) as u64);
+    io::write_all(1, &[b'\n']);
 }
 
 // The line of a block: "`B start end number place atoms bonds`, the place counted in the file (0 if accepted)".
 fn print_block(file: &[u8], start: usize, end: usize)
-    requires { ⌜ (start ≤ end) × (end ≤ length (now file)) ⌝ }
+    requires { ⌜ (start ≤ end) × (end ≤ length (now file)) × (length (now file) ≤ 65536) ⌝ }
 {
-    let mut table = [0i32; 3856];
-    let answer = reader::read(&file[start..end], &mut table);
     io::write_all(1, &[b'B']);
     print_behind(start as u64);
     print_behind(end as u64);
-    print_answer(start, answer);
-    print_count(&table, 0);
-    print_count(&table, 1);
-    io::write_all(1, &[b'\n']);
-}
-
-// The number and the place of a reading. A place lies in its block, so the sum does not wrap.
-fn print_answer(start: usize, answer: Answer) {
+    let mut table = [0i32; 3856];
+    let answer = reader::read(&file[start..end], &mut table);
     match answer {
         Answer::Accepted => {
-            print_behind(0);
-            print_behind(0);
+            print_reading(0, 0, &table);
         }
         Answer::Refused(number, place) => {
-            print_behind(number as u64);
-            print_behind(std::num::wrapping_add_usize(start, place) as u64);
+            print_reading(number, start + place, &table);
         }
     }
 }
@@ -69,7 +57,7 @@ fn print_stray(start: usize, end: usize) {
 
 // The line of the piece from a place on, and where it ends.
 fn print_piece(file: &[u8], place: usize) -> usize
-    requires { ⌜ place < length (now file) ⌝ }
+    requires { ⌜ (place < length (now file)) × (length (now file) ≤ 65536) ⌝ }
     ensures { λ r. ⌜ (place < r) × (r ≤ length (now (file .entry))) ⌝ }
 {
     match transfer::walks::walk(file, place) {
@@ -87,7 +75,9 @@ fn print_piece(file: &[u8], place: usize) -> usize
 }
 
 // The lines of a file, piece by piece.
-fn print_file(file: &[u8]) {
+fn print_file(file: &[u8])
+    requires { ⌜ length (now file) ≤ 65536 ⌝ }
+{
     let mut place = 0;
     while place < file.len() {
         place = print_piece(file, place);

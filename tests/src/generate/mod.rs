@@ -1,6 +1,7 @@
 //! The generator: blocks, tables and transfer files from a seed.
 
 pub mod blocks;
+pub mod cases;
 pub mod crowded;
 pub mod damage;
 mod damage_rows;
@@ -12,6 +13,7 @@ pub mod random;
 pub mod spelling;
 pub mod structures;
 pub mod tables;
+pub mod typical;
 
 pub use blocks::sound_block;
 pub use damage::damaged;

@@ -1,6 +1,7 @@
 //! The independent reader: document 01 read line by line, every broken rule of a line collected,
 //! the least of them answered. Nothing here is shared with the definitions or the proved code.
 
+pub mod cases;
 pub mod elements;
 pub mod formula;
 pub mod lines;
@@ -11,6 +12,7 @@ pub mod table;
 pub mod walking;
 pub mod writing;
 
+pub use cases::case_lines;
 pub use reading::{check, read, Answer};
 pub use walking::{name, pieces, walk, walk_lines, Walked};
 pub use writing::{write, Written};

@@ -1,7 +1,8 @@
 -- The reading packed: each answer is one case. Assumes nothing.
 use native.Mathlib.Omega.{arith}
 use borrow.Author.Needs.{needs}
-use Rattle.host.proofs.PackLaws.{read-packed, read-table, place-fits}
+use Rattle.reader.proofs.PlacedLaws.{place-fits}
+use Rattle.host.proofs.PackLaws.{read-packed, read-table}
 use Rattle.host.proofs.galebonnet_read.Statement.{statement}
 use Rattle.host.proofs.galebonnet_read.Tie as tie
 

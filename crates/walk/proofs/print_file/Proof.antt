@@ -15,7 +15,7 @@ loop-holds : tie.Need-loop-holds Inv-loop μ-loop
 loop-holds c = tt
 
 print-piece-requires : tie.Need-print-piece-requires Inv-loop μ-loop
-print-piece-requires c κs = c .loop-test .taken
+print-piece-requires c κs = (c .loop-test .taken, c .before .before .before .pre)
 
 loop-less : tie.Need-loop-less Inv-loop μ-loop
 loop-less c = omega (arith, c .print-piece .ensures .0, c .print-piece .ensures .1)

@@ -12,7 +12,7 @@ enum-known-end : tie.Need-enum-known-end
 enum-known-end c = search needs
 
 print-block-requires : tie.Need-print-block-requires
-print-block-requires c κs = let k = block-inside _ _ _ _ _ (c .before .before .before .walk .ensures) (c .before .end .given .1) in (omega (arith, k .0), k .1)
+print-block-requires c κs = let k = block-inside _ _ _ _ _ (c .before .before .before .walk .ensures) (c .before .end .given .1) in (omega (arith, k .0), k .1, c .before .before .before .before .before .pre .1)
 
 enum-known-end-2 : tie.Need-enum-known-end-2
 enum-known-end-2 c = search needs

@@ -16,11 +16,11 @@ Inv-loop block at i₀ i = textTo at (cut (drop at block)) ≡ textTo i (cut (dr
 abbrev μ-loop : tie.MeasureT-loop
 μ-loop block at i₀ i = length block - i
 
-skip-to-hash-requires : tie.Need-skip-to-hash-requires Inv-loop μ-loop
-skip-to-hash-requires c κs = search needs
+skip-to-label-requires : tie.Need-skip-to-label-requires Inv-loop μ-loop
+skip-to-label-requires c κs = search needs
 
 loop-holds : tie.Need-loop-holds Inv-loop μ-loop
-loop-holds c = text-skip _ _ _ (c .skip-to-hash .ensures)
+loop-holds c = text-skip _ _ _ (c .skip-to-label .ensures)
 
 line-end-requires : tie.Need-line-end-requires Inv-loop μ-loop
 line-end-requires c κs = search needs
@@ -40,14 +40,14 @@ is-label-requires c κs = search needs
 returns : tie.Need-returns Inv-loop μ-loop
 returns c = let l = c .before .before .before in text-ends _ _ _ (sym (l .before .before .loop .inv ∙ text-hit _ _ _ (l .before .loop-test .taken) (l .line-end .ensures .is) (sym (c .before .is-label .ensures) ∙ c .if1 .taken)))
 
-skip-to-hash-requires-2 : tie.Need-skip-to-hash-requires-2 Inv-loop μ-loop
-skip-to-hash-requires-2 c κs = search needs
+skip-to-label-requires-2 : tie.Need-skip-to-label-requires-2 Inv-loop μ-loop
+skip-to-label-requires-2 c κs = search needs
 
 loop-less : tie.Need-loop-less Inv-loop μ-loop
-loop-less c = let l = c .before .before .before .before in omega (arith, l .line-end .ensures .more (l .before .loop-test .taken), c .skip-to-hash2 .ensures)
+loop-less c = let l = c .before .before .before .before in omega (arith, l .line-end .ensures .more (l .before .loop-test .taken), c .skip-to-label2 .ensures)
 
 loop-again : tie.Need-loop-again Inv-loop μ-loop
-loop-again c = let l = c .before .before .before .before in l .before .before .loop .inv ∙ text-goes _ _ _ (l .before .loop-test .taken) (l .line-end .ensures .is) (sym (c .before .before .is-label .ensures) ∙ c .before .if1 .left) _ (c .skip-to-hash2 .ensures)
+loop-again c = let l = c .before .before .before .before in l .before .before .loop .inv ∙ text-goes _ _ _ (l .before .loop-test .taken) (l .line-end .ensures .is) (sym (c .before .before .is-label .ensures) ∙ c .before .if1 .left) _ (c .skip-to-label2 .ensures)
 
 returns-2 : tie.Need-returns-2 Inv-loop μ-loop
 returns-2 c = text-ends _ _ _ (sym (c .before .loop .inv ∙ text-end _ _ (c .loop-test .left)))
@@ -58,7 +58,7 @@ text-end-spec =
     (tie.spec
     Inv-loop
     μ-loop
-    skip-to-hash-requires
+    skip-to-label-requires
     loop-holds
     line-end-requires
     sub-is-label
@@ -66,7 +66,7 @@ text-end-spec =
     part-is-label-end
     is-label-requires
     returns
-    skip-to-hash-requires-2
+    skip-to-label-requires-2
     loop-less
     loop-again
     returns-2)

@@ -17,11 +17,11 @@ Inv-loop file place at i₀ i = ahead file (inBlock place) at ≡ ahead file (in
 abbrev μ-loop : tie.MeasureT-loop
 μ-loop file place at i₀ i = length file - i
 
-skip-to-hash-requires : tie.Need-skip-to-hash-requires Inv-loop μ-loop
-skip-to-hash-requires c κs = search needs
+skip-to-label-requires : tie.Need-skip-to-label-requires Inv-loop μ-loop
+skip-to-label-requires c κs = search needs
 
 loop-holds : tie.Need-loop-holds Inv-loop μ-loop
-loop-holds c = skip-block _ _ _ _ (c .skip-to-hash .ensures)
+loop-holds c = skip-block _ _ _ _ (c .skip-to-label .ensures)
 
 line-end-requires : tie.Need-line-end-requires Inv-loop μ-loop
 line-end-requires c κs = search needs
@@ -44,14 +44,14 @@ returns c = let l = c .before .before .before in block-at-title _ _ _ _ _ _ (l .
 returns-2 : tie.Need-returns-2 Inv-loop μ-loop
 returns-2 c = let l = c .before .before .before .before in block-at-end _ _ _ _ _ _ (l .before .loop-test .taken) (l .line-end .ensures .is) (c .before .before .label-code .ensures) (l .before .before .loop .inv) (c .before .if1 .left) (c .if2 .taken)
 
-skip-to-hash-requires-2 : tie.Need-skip-to-hash-requires-2 Inv-loop μ-loop
-skip-to-hash-requires-2 c κs = search needs
+skip-to-label-requires-2 : tie.Need-skip-to-label-requires-2 Inv-loop μ-loop
+skip-to-label-requires-2 c κs = search needs
 
 loop-less : tie.Need-loop-less Inv-loop μ-loop
-loop-less c = let l = c .before .before .before .before .before in omega (arith, l .line-end .ensures .more (l .before .loop-test .taken), c .skip-to-hash2 .ensures)
+loop-less c = let l = c .before .before .before .before .before in omega (arith, l .line-end .ensures .more (l .before .loop-test .taken), c .skip-to-label2 .ensures)
 
 loop-again : tie.Need-loop-again Inv-loop μ-loop
-loop-again c = let l = c .before .before .before .before .before in block-goes _ _ _ _ _ _ (l .before .loop-test .taken) (l .line-end .ensures .is) (c .before .before .before .label-code .ensures) (l .before .before .loop .inv) _ (c .before .before .if1 .left) (c .before .if2 .left) (c .skip-to-hash2 .ensures)
+loop-again c = let l = c .before .before .before .before .before in block-goes _ _ _ _ _ _ (l .before .loop-test .taken) (l .line-end .ensures .is) (c .before .before .before .label-code .ensures) (l .before .before .loop .inv) _ (c .before .before .if1 .left) (c .before .if2 .left) (c .skip-to-label2 .ensures)
 
 returns-3 : tie.Need-returns-3 Inv-loop μ-loop
 returns-3 c = c .before .loop .inv ∙ ahead-end _ _ _ (c .loop-test .left)
@@ -62,7 +62,7 @@ block-end-spec =
     (tie.spec
     Inv-loop
     μ-loop
-    skip-to-hash-requires
+    skip-to-label-requires
     loop-holds
     line-end-requires
     sub-label-code
@@ -71,7 +71,7 @@ block-end-spec =
     label-code-requires
     returns
     returns-2
-    skip-to-hash-requires-2
+    skip-to-label-requires-2
     loop-less
     loop-again
     returns-3)

@@ -1,0 +1,98 @@
+//! Blocks as programs write them: what the benchmark reads. Typical ones of 6 to 24 atoms, the
+//! largest, and the orders and rows that cost most.
+
+use super::crowded::{each_atom, two_ends, Crowded};
+use super::random::Random;
+use crate::independent::table::{laid_out, Atom, Bond, Centre, Spread, Structure, LONGEST_BLOCK};
+use crate::independent::write;
+
+/// A block of 6 to 24 atoms in the written form: a chain with branches and rings, mostly of carbon.
+pub fn typical_block(random: &mut Random) -> Vec<u8> {
+    let count = random.between(6, 24);
+    let mut content =
+        Structure { block_id: random.between(0, 1) * random.between(1, 999_999), ..Structure::default() };
+    content.atoms = (0..count).map(|_| atom(random)).collect();
+    content.bonds = bonds(random, count);
+    if random.chance(20) {
+        content.charges =
+            vec![Spread { value: *random.pick(&[&-1, &1, &2]), atoms: vec![random.between(1, count)] }];
+    }
+    if random.chance(30) {
+        let centre = random.between(1, count);
+        content.centres = vec![Centre { atom: centre, descriptor: random.between(1, 2), group: 0 }];
+    }
+    written(random, content)
+}
+
+fn atom(random: &mut Random) -> Atom {
+    let element = *random.pick(&[&6, &6, &6, &6, &6, &6, &6, &7, &8, &8, &9, &16, &17]);
+    let hydrogens = if element == 6 { random.between(0, 3) } else { random.between(0, 1) };
+    Atom { element, mass: 0, hydrogens }
+}
+
+/// Each atom bound to one of the three before it, and some rings, ascending.
+fn bonds(random: &mut Random, count: i32) -> Vec<Bond> {
+    let mut ends: Vec<(i32, i32)> =
+        (2..=count).map(|atom| (random.between(1.max(atom - 3), atom - 1), atom)).collect();
+    for _ in 0..random.below(3) {
+        ends.push((1, random.between(5, count)));
+    }
+    ends.sort();
+    ends.dedup();
+    let kinds: [&i32; 6] = [&1, &1, &1, &1, &2, &5];
+    ends.into_iter().map(|(lower, higher)| Bond { lower, higher, kind: *random.pick(&kinds) }).collect()
+}
+
+/// The written form with three short texts.
+fn written(random: &mut Random, mut content: Structure) -> Vec<u8> {
+    let title = format!("compound {}, batch {}", random.between(1, 99_999), random.between(1, 99));
+    let texts = format!("{title}bench {}public domain", random.between(1, 9));
+    let ends = [0, title.len(), title.len() + 7, texts.len()];
+    content.texts = [0, 1, 2].map(|which| (ends[which], ends[which + 1] - ends[which]));
+    let mut buffer = vec![0; LONGEST_BLOCK];
+    let written = write(&laid_out(&content), texts.as_bytes(), &mut buffer);
+    assert_eq!(written.number, 0, "a typical block is not written: {content:?}");
+    buffer.truncate(written.count);
+    buffer
+}
+
+/// 256 atoms and 512 bonds, every row in order.
+pub fn largest_block() -> Vec<u8> {
+    let mut block = Crowded::with_atoms(256);
+    block.bonds = two_ends(256, 512, "S");
+    block.block()
+}
+
+/// Every list full, every row in order.
+pub fn full_block() -> Vec<u8> {
+    let mut block = Crowded::with_atoms(256);
+    block.bonds = two_ends(256, 512, "S");
+    block.charges = each_atom(64, |atom| format!("+1 {atom}"));
+    block.radicals = each_atom(64, |atom| format!("1 {atom}"));
+    block.centres = each_atom(128, |atom| format!("{atom} P A"));
+    block.pairs = two_ends(256, 128, "M b");
+    block.block()
+}
+
+/// Blocks that ask most of one part of a reader, by name.
+pub fn worst_blocks() -> Vec<(&'static str, Vec<u8>)> {
+    let mut reversed = Crowded::with_atoms(256);
+    reversed.bonds = two_ends(256, 512, "S");
+    reversed.bonds.reverse();
+    let mut repeated = Crowded::with_atoms(33);
+    repeated.bonds = two_ends(33, 512, "S");
+    repeated.bonds.extend(vec!["9 8 S".to_string(); 4_500]);
+    let mut members = Crowded::with_atoms(256);
+    members.charges = vec![format!("+1{}", " 1".repeat(10_000))];
+    let entries = Crowded::with_atoms(250).block();
+    let entries = String::from_utf8_lossy(&entries).replace("= H250", &format!("={}", " D".repeat(8_000)));
+    let long = Crowded::with_atoms(1).block();
+    let long = String::from_utf8_lossy(&long).replace("= t", &format!("= {}", "a b c d ".repeat(4_000)));
+    vec![
+        ("512 bonds, the last first", reversed.block()),
+        ("a bond repeated 4,500 times", repeated.block()),
+        ("a charge of 10,000 members", members.block()),
+        ("a formula of 8,000 entries", entries.into_bytes()),
+        ("a title of 32,000 bytes", long.into_bytes()),
+    ]
+}
