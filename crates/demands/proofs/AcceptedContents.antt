@@ -79,6 +79,29 @@ abbrev pub idOn : Told → List ℕ
 idOn (Value h v) = idIn h v
 idOn (Further h l) = []
 
+-- which records give a formula, an id, atoms, rows
+abbrev byHolds : (formula id atoms rows : Bool) → Holds → Bool
+byHolds f n a r (Text i) = false
+byHolds f n a r Version = false
+byHolds f n a r Formula = f
+byHolds f n a r BlockId = n
+byHolds f n a r Atoms = a
+byHolds f n a r (Rows l) = r
+byHolds f n a r End = false
+byHolds f n a r Skipped = false
+
+abbrev pub formulaHeld : Holds → Bool
+formulaHeld h = byHolds true false false false h
+
+abbrev pub idHeld : Holds → Bool
+idHeld h = byHolds false true false false h
+
+abbrev pub atomsHeld : Holds → Bool
+atomsHeld h = byHolds false false true false h
+
+abbrev pub rowsHeld : Holds → Bool
+rowsHeld h = byHolds false false false true h
+
 -- LISTS OF LISTS
 module _ {A B C : Type 0} where
   flat-flat : (f : B → List C) (g : A → List B) (xs : List A) → flat f (flat g xs) ≡ flat (λ x. flat f (g x)) xs

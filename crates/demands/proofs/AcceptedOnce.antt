@@ -15,9 +15,9 @@ use Rattle.format.specs.Labels.{Holds, Label, label, known, misplaced, Line, Pl
 use Rattle.format.specs.Reading.{State, past, opened}
 use Rattle.demands.specs.Accepted.{Told, Value, Further, toldAs, told, labelOn}
 use Rattle.demands.specs.ReadAs.{idAs}
-use Rattle.demands.proofs.AcceptedContents.{entriesOn, idOn}
+use Rattle.demands.proofs.AcceptedContents.{formulaHeld, idHeld, entriesOn, idOn}
 use Rattle.demands.proofs.AcceptedSteps.{afterValue, afterFurther, afterAs, after, afters, along, placedAt}
-use Rattle.demands.proofs.AcceptedState.{formulaHeld, value-formula, value-entries, further-formula, idHeld, value-quiet-id, value-id, further-id}
+use Rattle.demands.proofs.AcceptedState.{value-formula, value-entries, further-formula, value-quiet-id, value-id, further-id}
 use Rattle.demands.proofs.AcceptedLines.{label-passed, placed}
 use Rattle.demands.proofs.AcceptedOrder.{codeSeen, code-misplaced, noted-some, seen-later, seen-now}
 use Rattle.demands.proofs.AcceptedRows.{told-nil, told-after}

@@ -18,33 +18,13 @@ use Rattle.format.specs.Labels.{ListOf, Holds, Text, Version, Formula, BlockId,
 use Rattle.format.specs.Rows.{Row, AtomRow}
 use Rattle.format.specs.Reading.{State, past, opened, over, atomCount}
 use Rattle.demands.specs.Accepted.{Value, Further, toldAs, runsOn, told, labelOn, labels}
-use Rattle.demands.proofs.AcceptedContents.{atomIn, atomOn, rowIn, rowOf}
+use Rattle.demands.proofs.AcceptedContents.{atomsHeld, rowsHeld, atomIn, atomOn, rowIn, rowOf}
 use Rattle.demands.proofs.AcceptedSteps.{afterValue, afterFurther, afterAs, after, afters, along, placedAt, closedAt, complete, endAt, blank-plain}
 use Rattle.demands.proofs.AcceptedState.{after-running, after-seen}
 use Rattle.demands.proofs.AcceptedLines.{label-passed, placed, over-after, closed-behind, over-label}
 use Rattle.demands.proofs.AcceptedRows.{told-nil, told-after, count-after, rowsAt, rowTest}
 
 -- WHICH RECORDS HAVE ATOMS, WHICH HAVE ROWS
-abbrev atomsHeld : Holds → Bool
-atomsHeld (Text i) = false
-atomsHeld Version = false
-atomsHeld Formula = false
-atomsHeld BlockId = false
-atomsHeld Atoms = true
-atomsHeld (Rows l) = false
-atomsHeld End = false
-atomsHeld Skipped = false
-
-abbrev rowsHeld : Holds → Bool
-rowsHeld (Text i) = false
-rowsHeld Version = false
-rowsHeld Formula = false
-rowsHeld BlockId = false
-rowsHeld Atoms = false
-rowsHeld (Rows l) = true
-rowsHeld End = false
-rowsHeld Skipped = false
-
 atoms-none : (h : Holds) (b : Bytes) → atomsHeld h ≡ false → atomIn h b ≡ []
 atoms-none (Text i) b e = refl
 atoms-none Version b e = refl

@@ -19,7 +19,7 @@ use Rattle.format.specs.Structure.{Atom, Structure, rowsOf, meets, Entry}
 use Rattle.format.specs.Reading.{State, Prose, withBody, withFormula, withText, withAtoms, withId, withRows, ordered, opened}
 use Rattle.demands.specs.Accepted.{toldAs, runsOn, labelOn, listed, rowOn, entriesAs, atomOf}
 use Rattle.demands.specs.ReadAs.{idAs}
-use Rattle.demands.proofs.AcceptedContents.{same-list, list-same, atomIn, atomOn, sameList, rowIn, rowOf, entriesIn, idIn}
+use Rattle.demands.proofs.AcceptedContents.{formulaHeld, idHeld, same-list, list-same, atomIn, atomOn, sameList, rowIn, rowOf, entriesIn, idIn}
 use Rattle.demands.proofs.AcceptedSteps.{addAll, addAtom, chosen, addRow, addFormula, addId, afterValue, afterFurther, afterAs, after}
 
 -- WHAT NO LINE'S CONTENT CHANGES: the record that runs, the labels seen
@@ -253,16 +253,6 @@ module _ (l : ListOf) where
     after-rows st b = rows-as st b (lineOf b)
 
 -- THE FORMULA, which a MOLFORM value alone gives
-abbrev pub formulaHeld : Holds → Bool
-formulaHeld (Text i) = false
-formulaHeld Version = false
-formulaHeld Formula = true
-formulaHeld BlockId = false
-formulaHeld Atoms = false
-formulaHeld (Rows l) = false
-formulaHeld End = false
-formulaHeld Skipped = false
-
 module _ (k : ℕ) where
   add-formula : (st : State) (o : Option (List Counted)) → st .formula ≡ [] → addFormula k st o .formula ≡ entriesAs k o
   add-formula st none e = e
@@ -303,16 +293,6 @@ module _ (k : ℕ) where
   further-formula Skipped st l = refl
 
 -- THE BLOCK ID, which a BLOCK_ID value alone gives
-abbrev pub idHeld : Holds → Bool
-idHeld (Text i) = false
-idHeld Version = false
-idHeld Formula = false
-idHeld BlockId = true
-idHeld Atoms = false
-idHeld (Rows l) = false
-idHeld End = false
-idHeld Skipped = false
-
 rows-id : (l : ListOf) (rs : List Row) (s : Structure) → withRows l rs s .id ≡ s .id
 unfolding withRows
 rows-id Bonds rs s = refl

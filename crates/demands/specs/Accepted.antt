@@ -65,7 +65,7 @@ outOfOrder x y = eqb (x .code) (y .code) || ltb (y .high) (x .low)
 abbrev pub named : List Label → (code : ℕ) → Bool
 named xs c = any (λ x. eqb (x .code) c) xs
 
--- RECORDS of one kind, the three texts being one: their values; their values and further lines
+-- RECORDS, told apart by the kind of what they hold (the three texts are of one kind): the value of such a record; its value and its further lines
 abbrev pub place : ListOf → ℕ
 place l = elim l [ Bonds ↦ 0 | Charges ↦ 1 | Radicals ↦ 2 | Centres ↦ 3 | Pairs ↦ 4 ]
 

@@ -1,4 +1,4 @@
--- The cases of document 01 that are proved over the definitions, file by file. Assumes nothing.
+-- The cases of document 01 and what its demands speak of, file by file. Assumes nothing.
 pub mod Cases
 pub mod Starred
 pub mod Neighbours
