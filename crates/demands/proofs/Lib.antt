@@ -27,4 +27,6 @@ pub mod AcceptedOnce
 pub mod AcceptedTexts
 pub mod Accepted
 pub mod ReadAs
+pub mod AcceptedSoundShapes
+pub mod AcceptedSoundRows
 pub mod Demands
