@@ -29,4 +29,5 @@ pub mod Accepted
 pub mod ReadAs
 pub mod AcceptedSoundShapes
 pub mod AcceptedSoundRows
+pub mod AcceptedSoundTexts
 pub mod Demands
