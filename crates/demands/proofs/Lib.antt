@@ -30,4 +30,5 @@ pub mod ReadAs
 pub mod AcceptedSoundShapes
 pub mod AcceptedSoundRows
 pub mod AcceptedSoundTexts
+pub mod AcceptedSound
 pub mod Demands
