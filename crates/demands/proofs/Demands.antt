@@ -5,12 +5,14 @@ use mathlib.Core.Bool.{true}
 use mathlib.Core.List.{List, [], _∷_, _++_, map}
 use lib.ListN.{length, drop, replicate}
 use lib.IntN.{ℤ}
+use lib.Dec.{ltb}
 use Rattle.lists.specs.Lists.{all, any}
-use Rattle.format.specs.Bytes.{Bytes, bytes, cut, whole}
+use Rattle.format.specs.Bytes.{Bytes, bytes, isIn, cut, whole}
 use Rattle.format.specs.Labels.{endLine}
 use Rattle.format.specs.Structure.{Isotope, Entry, total, agree, Structure, wellFormed}
-use Rattle.format.specs.Table.{zeros, encode, textFine, sound, readAnswer, readResult}
-use Rattle.format.specs.Writing.{canonical, formOf, unwritten, writeResult}
+use Rattle.format.specs.Reading.{strict, Span, Read, readBlock}
+use Rattle.format.specs.Table.{zeros, encode, textFine, textAt, sound, readAnswer, readResult}
+use Rattle.format.specs.Writing.{canonical, formOf, unwritten, writtenAs, writeResult}
 use Rattle.format.specs.Walking.{block, piece, pieces, answers}
 use Rattle.format.proofs.RefusedLaws as short
 use Rattle.format.proofs.TotalLaws as totals
@@ -22,7 +24,9 @@ use Rattle.demands.specs.Stretches.{closing, opening, moved, _then_, Cha
 use Rattle.demands.specs.WayBack.{ReadBack, TableBack, WrittenAgain, OneBlock}
 use Rattle.demands.specs.Accepted.{Obeys, _exactlyWhen_}
 use Rattle.demands.specs.ReadAs.{structureIn, spansIn}
+use Rattle.demands.specs.ReadWritten.{formIn}
 use Rattle.demands.proofs.Accepted as accepted
+use Rattle.demands.proofs.AcceptedSound as kept
 use Rattle.demands.proofs.ReadAs as read
 use Rattle.demands.proofs.Worked as worked
 use Rattle.demands.proofs.Refused as refused
@@ -53,6 +57,28 @@ accepted-iff = accepted.accepted-iff
 -- and its table is then, number for number, that of its atoms in order, of the rows of each list sorted and without repeats, of its block id and of its texts
 pub table-is : (k : ℕ) (b : Bytes) (t : List ℤ) → 3856 ≤ length t → Obeys k b → readResult k b t ≡ readAnswer 0 0 (encode (structureIn k b) (spansIn b) ++ drop 3856 t)
 table-is = read.table-is
+
+-- of every accepted block the structure is well-formed, the texts are fine, and the table is sound with the block as the texts' bytes (1 ≤ k: D and T are hydrogen)
+pub read-sound : (k : ℕ) (b : Bytes) (s : Structure) (spans : List Span) → 1 ≤ k → readBlock (strict k) b ≡ Read s spans →
+    (wellFormed k s ≡ true) × (all textFine (map (textAt b) spans) ≡ true) × (sound k (encode s spans) b ≡ true)
+read-sound = kept.read-sound
+
+pub accepted-sound : (k : ℕ) (b : Bytes) (t : List ℤ) → 1 ≤ k → 3856 ≤ length t → readResult k b t .number ≡ 0 → sound k (readResult k b t .table) b ≡ true
+accepted-sound = kept.accepted-sound
+
+-- so what was read can be written: the answer is the form of what the block was read as, or 23, it passes 32,768 bytes, or 22, the buffer is shorter; never 1 or 21
+pub read-written : (k : ℕ) (b : Bytes) (t : List ℤ) → 1 ≤ k → 3856 ≤ length t → readResult k b t .number ≡ 0 → (buffer : Bytes) →
+    writeResult k (readResult k b t .table) b buffer ≡ writtenAs (ltb 32768 (length (formIn k b))) (ltb (length buffer) (length (formIn k b))) (formIn k b) buffer
+read-written = kept.read-written
+
+pub read-then-written : (k : ℕ) (b : Bytes) (t : List ℤ) → 1 ≤ k → 3856 ≤ length t → readResult k b t .number ≡ 0 → (buffer : Bytes) →
+    isIn (writeResult k (readResult k b t .table) b buffer .number) (0 ∷ 22 ∷ 23 ∷ []) ≡ true
+read-then-written = kept.read-then-written
+
+-- and what is read, written and read again gives the same numbers but for the places of the texts, where texts of the same content stand
+pub read-written-read : (k : ℕ) (b : Bytes) (t : List ℤ) → 1 ≤ k → 3856 ≤ length t → readResult k b t .number ≡ 0 → (buffer : Bytes) (into : List ℤ) → k ≤ 103 →
+    length (formOf (readResult k b t .table) b) ≤ 32768 → length (formOf (readResult k b t .table) b) ≤ length buffer → 3856 ≤ length into → TableBack k (readResult k b t .table) b buffer into
+read-written-read = kept.read-written-read
 
 -- there are blocks that obey and blocks that do not: the neon block, the one with `2 Ne`
 pub obeying-met : Obeys 103 (bytes neon) × (Obeys 103 (bytes wrongNeon) → ⊥)

@@ -27,4 +27,8 @@ pub mod AcceptedOnce
 pub mod AcceptedTexts
 pub mod Accepted
 pub mod ReadAs
+pub mod AcceptedSoundShapes
+pub mod AcceptedSoundRows
+pub mod AcceptedSoundTexts
+pub mod AcceptedSound
 pub mod Demands

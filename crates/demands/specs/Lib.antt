@@ -7,3 +7,4 @@ pub mod Stretches
 pub mod WayBack
 pub mod Accepted
 pub mod ReadAs
+pub mod ReadWritten
