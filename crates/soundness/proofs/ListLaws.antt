@@ -14,13 +14,14 @@ use borrow.Author.Tests.{leb-true, le-leb, not-true}
 use Rattle.lists.specs.Lists.{all, pairs, flat, filled, rowsFrom}
 use Rattle.lists.specs.Order.{ascends}
 use Rattle.lists.proofs.Bools.{and-parts, and-both}
+use Rattle.lists.proofs.ListLaws.{all-same}
 use Rattle.lists.proofs.RegionLaws.{rows-length}
 use Rattle.format.specs.Labels.{ListOf, Charges, Radicals}
 use Rattle.format.specs.Rows.{Row}
 use Rattle.format.specs.Structure.{arity, meets, overlap, ranged, rowBefore, rowOk}
 use Rattle.format.specs.Table.{rowCells, spreadAt}
 use Rattle.soundness.specs.Numbered.{column, inTurn}
-use Rattle.soundness.specs.Sounding.{unused}
+use Rattle.soundness.specs.Sounding.{unused, valueFine}
 use Rattle.soundness.proofs.SplitLaws.{region-split, region-joined}
 use Rattle.soundness.proofs.KeyLaws.{Keyed}
 use Rattle.soundness.proofs.KeyedLaws.{Says, cells-long, keyed-there, keyed-back}
@@ -80,8 +81,9 @@ module _ (l : ListOf) (n w : ℕ) (rowAt : List ℤ → Row) (key : List ℤ →
 abbrev overlaps : Row → Row → Bool
 overlaps r s = overlap (r .atoms) (s .atoms)
 
-pub record Spread (l : ListOf) : Type 0 where
+pub record Spread (l : ListOf) (signed : Bool) : Type 0 where
   pub none : arity l ≡ 0
+  pub values-are : (v : ℤ) → valueFine signed v ≡ ranged l v
   pub meeting : (rs : List Row) → pairs (meets l) rs ≡ pairs overlaps rs
   pub cells : (p j : ℕ) (records : List (List ℤ)) (vs : List ℤ) → flat (rowCells l) (spreadAt p j records vs) ≡ vs
 
@@ -95,18 +97,19 @@ unfolding spreadAt flat rowCells
 radical-cells p j records [] = refl
 radical-cells p j records (v ∷ vs) = ap (λ (l : List ℤ). v ∷ l) (radical-cells p (suc j) records vs)
 
-pub charges-spread : Spread Charges
-unfolding arity
-charges-spread = record { none = refl; meeting = numbered.charges-meet; cells = charge-cells }
+pub charges-spread : Spread Charges true
+unfolding arity valueFine ranged
+charges-spread = record { none = refl; values-are = λ v. refl; meeting = numbered.charges-meet; cells = charge-cells }
 
-pub radicals-spread : Spread Radicals
-unfolding arity
-radicals-spread = record { none = refl; meeting = numbered.radicals-meet; cells = radical-cells }
+pub radicals-spread : Spread Radicals false
+unfolding arity valueFine ranged
+radicals-spread = record { none = refl; values-are = λ v. refl; meeting = numbered.radicals-meet; cells = radical-cells }
 
 pub spread-many : (p : ℕ) (records : List (List ℤ)) (vs : List ℤ) → length (spreadAt p 1 records vs) ≡ length vs
 spread-many p records vs = ap length (numbered.rows-are p 1 records vs) ∙ numbered.rows-length 1 1 (column p records) vs
 
-module _ (l : ListOf) (S : Spread l) (p : ℕ) (records : List (List ℤ)) (t : List ℤ) (base c : ℕ) (few : c ≤ 64) (long : base + 64 ≤ length t) (up : numbered.upTo c (column p records) ≡ true) where
+module _ (l : ListOf) (signed : Bool) (S : Spread l signed) (p n : ℕ) (records : List (List ℤ)) (recorded : length records ≡ n) (t : List ℤ) (base c : ℕ) (few : c ≤ 64) (long : base + 64 ≤ length t)
+    (up : numbered.upTo c (column p records) ≡ true) where
   abbrev values : List ℤ
   values = take c (drop base t)
 
@@ -116,9 +119,6 @@ module _ (l : ListOf) (S : Spread l) (p : ℕ) (records : List (List ℤ)) (t : 
   as-many : length values ≡ c
   as-many = length-take-le c (drop base t) (omega (arith, length-drop base t))
 
-  rows-many : length spreadRows ≡ c
-  rows-many = spread-many p records values ∙ as-many
-
   turn-is : inTurn 0 c (column p records) ≡ (ascends rowBefore spreadRows && not (pairs (meets l) spreadRows))
   turn-is =
       ap (λ (i : ℕ). inTurn 0 i (column p records)) (sym as-many) ∙ numbered.in-turn p records values (ap (λ (i : ℕ). numbered.upTo i (column p records)) as-many ∙ up)
@@ -127,18 +127,20 @@ module _ (l : ListOf) (S : Spread l) (p : ℕ) (records : List (List ℤ)) (t : 
   cells-same : length (flat (rowCells l) spreadRows) ≡ c
   cells-same = ap length (S .cells p 1 records values) ∙ as-many
 
-  pub spread-region : all (ranged l) values ≡ true → unused (take (64 - c) (drop (base + c) t)) ≡ true → inTurn 0 c (column p records) ≡ true →
-      FineList l (length records) 64 spreadRows × (filled (pos 0) 64 (flat (rowCells l) spreadRows) ≡ take 64 (drop base t))
-  spread-region v u o =
-      let q = and-parts (ascends rowBefore spreadRows) (not (pairs (meets l) spreadRows)) (sym turn-is ∙ o) in (
-        record { few = omega (arith, rows-many); fine = numbered.rows-fine p records values l (S .none) ∙ v; ascending = q .0; apart = not-true (pairs (meets l) spreadRows) (q .1) },
-        region-joined t (flat (rowCells l) spreadRows) base 64 c cells-same few long (S .cells p 1 records values) u,
+  fine-is : all (rowOk l n) spreadRows ≡ all (valueFine signed) values
+  fine-is =
+      ap (λ (i : ℕ). all (rowOk l i) spreadRows) (sym recorded) ∙ numbered.rows-fine p records values l (S .none) ∙ sym (all-same (valueFine signed) (ranged l) (S .values-are) values)
+
+  pub spread-region : ((all (valueFine signed) values && unused (take (64 - c) (drop (base + c) t))) && inTurn 0 c (column p records)) ≡ true →
+      FineList l n 64 spreadRows × (filled (pos 0) 64 (flat (rowCells l) spreadRows) ≡ take 64 (drop base t))
+  spread-region h =
+      let o = and-parts (all (valueFine signed) values && unused (take (64 - c) (drop (base + c) t))) (inTurn 0 c (column p records)) h in
+      let v = and-parts (all (valueFine signed) values) (unused (take (64 - c) (drop (base + c) t))) (o .0) in
+      let q = and-parts (ascends rowBefore spreadRows) (not (pairs (meets l) spreadRows)) (sym turn-is ∙ o .1) in (
+        record { few = omega (arith, spread-many p records values, as-many); fine = fine-is ∙ v .0; ascending = q .0; apart = not-true (pairs (meets l) spreadRows) (q .1) },
+        region-joined t (flat (rowCells l) spreadRows) base 64 c cells-same few long (S .cells p 1 records values) (v .1),
       )
 
-  pub region-spread : FineList l (length records) 64 spreadRows → filled (pos 0) 64 (flat (rowCells l) spreadRows) ≡ take 64 (drop base t) →
-      (all (ranged l) values ≡ true) × (unused (take (64 - c) (drop (base + c) t)) ≡ true) × (inTurn 0 c (column p records) ≡ true)
-  region-spread f e = (
-    sym (numbered.rows-fine p records values l (S .none)) ∙ f .fine,
-    region-split t (flat (rowCells l) spreadRows) base 64 c cells-same few long e .1,
-    turn-is ∙ rw (f .ascending, f .apart),
-  )
+  pub region-spread : FineList l n 64 spreadRows → filled (pos 0) 64 (flat (rowCells l) spreadRows) ≡ take 64 (drop base t) →
+      ((all (valueFine signed) values && unused (take (64 - c) (drop (base + c) t))) && inTurn 0 c (column p records)) ≡ true
+  region-spread f e = rw (sym fine-is ∙ f .fine, region-split t (flat (rowCells l) spreadRows) base 64 c cells-same few long e .1, turn-is, f .ascending, f .apart)

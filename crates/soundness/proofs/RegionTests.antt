@@ -87,6 +87,9 @@ module _ (t : List ℤ) where
     pub sound-short : length t < 3856 → false ≡ (leb 3856 (length t) && sound 103 t b)
     sound-short h = rw (lt-leb 3856 (length t) h)
 
+    pub sound-is : 3856 ≤ length t → (leb 3856 (length t) && sound 103 t b) ≡ sound 103 t b
+    sound-is h = rw (le-leb 3856 (length t) h)
+
     pub sound-long : 3856 ≤ length t → (soundNumbers 103 t && all (textOk b) (spansOf t)) ≡ (leb 3856 (length t) && sound 103 t b)
     unfolding sound
-    sound-long h = rw (le-leb 3856 (length t) h)
+    sound-long h = sym (sound-is h)

@@ -2,7 +2,7 @@
 -- "Refusal numbers" ("21, the table isn't sound (no atom, or a count, range, order, clash or zero rule broken"). Assumes nothing.
 use Prim.Native.Nat.{ℕ, suc, _+_, _*_, _≤_, _<_}
 use mathlib.Core.Path.{_≡_, refl, sym, ap, _∙_}
-use mathlib.Core.Bool.{Bool, true, false, _&&_}
+use mathlib.Core.Bool.{Bool, true, false}
 use mathlib.Core.List.{List, [], _∷_}
 use native.Mathlib.Nat.{mul-suc}
 use native.Mathlib.Omega.{arith}
@@ -13,16 +13,16 @@ use lib.Dec.{leb}
 use borrow.Author.Tests.{leb-true, eqb-true}
 use Rattle.lists.specs.Lists.{all, sameBy, flat, filled, rowsFrom}
 use Rattle.lists.proofs.Bools.{torn, both-ways, and-parts, and-both, eqb-same}
-use Rattle.lists.proofs.ListLaws.{all-at, all-same}
+use Rattle.lists.proofs.ListLaws.{all-at}
 use Rattle.lists.proofs.PartLaws.{filled-length}
 use Rattle.lists.proofs.PairLaws.{sameBy-eq, sameBy-refl}
 use Rattle.lists.proofs.RegionLaws.{rows-length}
 use Rattle.format.specs.Labels.{ListOf, Bonds, Charges, Radicals, Centres, Pairs}
 use Rattle.format.specs.Rows.{Row}
-use Rattle.format.specs.Structure.{Atom, Structure, rowsOf, most, ranged, atomOk, wellFormed}
+use Rattle.format.specs.Structure.{Atom, Structure, rowsOf, most, atomOk, wellFormed}
 use Rattle.format.specs.Table.{cell, base, width, rowWith, atomCells, rowCells, rowsPart, spanCells, encode, markedAt, bondAt, spreadAt, decode, spansOf, sameNumber, soundNumbers}
-use Rattle.soundness.specs.Numbered.{column, columnOf, inTurn}
-use Rattle.soundness.specs.Sounding.{unused, headerFine, countsFine, placesFine, atomFine, atomsFine, recordKey, recordsFine, keyedFine, bondsFine, centresFine, pairsFine, valueFine, valuesFine, chargesFine, radicalsFine, listsFine, regionsFine}
+use Rattle.soundness.specs.Numbered.{column, columnOf}
+use Rattle.soundness.specs.Sounding.{unused, headerFine, countsFine, placesFine, atomFine, atomsFine, recordKey, recordsFine, keyedFine, bondsFine, centresFine, pairsFine, valuesFine, chargesFine, radicalsFine, listsFine, regionsFine}
 use Rattle.soundness.proofs.NumberedLaws.{upTo, column-at, column-length, row-back}
 use Rattle.soundness.proofs.SplitLaws.{region-split, region-joined}
 use Rattle.soundness.proofs.KeyLaws.{bonds-keyed, centres-keyed, pairs-keyed}
@@ -38,14 +38,6 @@ atom-cells : (i : ℕ) (cs rs : List Row) (xs : List Atom) → length (atomCells
 unfolding atomCells
 atom-cells i cs rs [] = refl
 atom-cells i cs rs (x ∷ xs) = omega (arith, atom-cells (suc i) cs rs xs, mul-suc 5 (length xs))
-
-charges-same : (vs : List ℤ) → all (valueFine true) vs ≡ all (ranged Charges) vs
-unfolding valueFine ranged
-charges-same vs = all-same (valueFine true) (ranged Charges) (λ v. refl) vs
-
-radicals-same : (vs : List ℤ) → all (valueFine false) vs ≡ all (ranged Radicals) vs
-unfolding valueFine ranged
-radicals-same vs = all-same (valueFine false) (ranged Radicals) (λ v. refl) vs
 
 six-long : (t : List ℤ) → length (flat spanCells (spansOf t)) ≡ 6
 unfolding flat spansOf rowsFrom
@@ -122,31 +114,19 @@ module _ (k : ℕ) (t : List ℤ) (long : 3856 ≤ length t) (H : Header t long)
 
     charges-there : chargesFine t ≡ true → FineList Charges n 64 (s .charges) × (filled (pos 0) 64 (flat (rowCells Charges) (s .charges)) ≡ take 64 (drop 2832 t))
     unfolding chargesFine valuesFine columnOf
-    charges-there h =
-        let p = and-parts (all (valueFine true) (take (cell t 2) (drop 2832 t)) && unused _) (inTurn 0 (cell t 2) (column 3 atomRows)) h in
-        let q = and-parts (all (valueFine true) (take (cell t 2) (drop 2832 t))) _ (p .0) in
-        let f = spread-region Charges charges-spread 3 atomRows t 2832 (cell t 2) (H .charges .high-is) (omega arith) (columns .0) (sym (charges-same (take (cell t 2) (drop 2832 t))) ∙ q .0) (q .1) (p .1) in
-        (other-count Charges 64 (length atomRows) n (s .charges) recorded (f .0), f .1)
+    charges-there h = spread-region Charges true charges-spread 3 n atomRows recorded t 2832 (cell t 2) (H .charges .high-is) (omega arith) (columns .0) h
 
     charges-back : FineList Charges n 64 (s .charges) → filled (pos 0) 64 (flat (rowCells Charges) (s .charges)) ≡ take 64 (drop 2832 t) → chargesFine t ≡ true
     unfolding chargesFine valuesFine columnOf
-    charges-back f e =
-        let g = region-spread Charges charges-spread 3 atomRows t 2832 (cell t 2) (H .charges .high-is) (omega arith) (columns .0) (other-count Charges 64 n (length atomRows) (s .charges) (sym recorded) f) e in
-        rw (charges-same (take (cell t 2) (drop 2832 t)), g .0, g .1, g .2)
+    charges-back f e = region-spread Charges true charges-spread 3 n atomRows recorded t 2832 (cell t 2) (H .charges .high-is) (omega arith) (columns .0) f e
 
     radicals-there : radicalsFine t ≡ true → FineList Radicals n 64 (s .radicals) × (filled (pos 0) 64 (flat (rowCells Radicals) (s .radicals)) ≡ take 64 (drop 2896 t))
     unfolding radicalsFine valuesFine columnOf
-    radicals-there h =
-        let p = and-parts (all (valueFine false) (take (cell t 3) (drop 2896 t)) && unused _) (inTurn 0 (cell t 3) (column 4 atomRows)) h in
-        let q = and-parts (all (valueFine false) (take (cell t 3) (drop 2896 t))) _ (p .0) in
-        let f = spread-region Radicals radicals-spread 4 atomRows t 2896 (cell t 3) (H .radicals .high-is) (omega arith) (columns .1) (sym (radicals-same (take (cell t 3) (drop 2896 t))) ∙ q .0) (q .1) (p .1) in
-        (other-count Radicals 64 (length atomRows) n (s .radicals) recorded (f .0), f .1)
+    radicals-there h = spread-region Radicals false radicals-spread 4 n atomRows recorded t 2896 (cell t 3) (H .radicals .high-is) (omega arith) (columns .1) h
 
     radicals-back : FineList Radicals n 64 (s .radicals) → filled (pos 0) 64 (flat (rowCells Radicals) (s .radicals)) ≡ take 64 (drop 2896 t) → radicalsFine t ≡ true
     unfolding radicalsFine valuesFine columnOf
-    radicals-back f e =
-        let g = region-spread Radicals radicals-spread 4 atomRows t 2896 (cell t 3) (H .radicals .high-is) (omega arith) (columns .1) (other-count Radicals 64 n (length atomRows) (s .radicals) (sym recorded) f) e in
-        rw (radicals-same (take (cell t 3) (drop 2896 t)), g .0, g .1, g .2)
+    radicals-back f e = region-spread Radicals false radicals-spread 4 n atomRows recorded t 2896 (cell t 3) (H .radicals .high-is) (omega arith) (columns .1) f e
 
     -- THE ATOMS
     row-is : (p c from : ℕ) → from ≤ 2896 → c ≤ 64 → upTo c (column p atomRows) ≡ true → (i : ℕ) → i < n → rowWith 1 (1 + i) (spreadAt p 1 atomRows (take c (drop from t))) ≡ cell (getD atomRows i []) p

@@ -1,8 +1,8 @@
 -- How the code's tests make up the definitions': a test that fails ends a row of tests, one that passes hands on to the next; and the turns of the loops over numbers and
 -- over records. Assumes nothing.
-use Prim.Native.Nat.{ℕ, _+_, _*_, _≤_, _<_, _^_}
+use Prim.Native.Nat.{ℕ, suc, _+_, _*_, _≤_, _<_, _^_}
 use mathlib.Core.Path.{_≡_, refl, sym, ap, _∙_}
-use mathlib.Core.Bool.{Bool, true, false, not, _&&_, _||_}
+use mathlib.Core.Bool.{Bool, true, false, not, _&&_, _||_, and-true, and-assoc}
 use mathlib.Core.List.{List, _∷_}
 use native.Mathlib.Omega.{arith}
 use native.Mathlib.Numerals.{add-one}
@@ -19,8 +19,8 @@ use borrow.Author.Needs.{sfits-of}
 use borrow.Author.Tests.{lt-ltb, le-ltb, le-leb}
 use Rattle.lists.specs.Lists.{all, rowsFrom}
 use Rattle.lists.specs.Order.{ascends}
-use Rattle.lists.proofs.Bools.{torn, never}
-use Rattle.lists.proofs.ListLaws.{all-step, all-miss, all-end}
+use Rattle.lists.proofs.Bools.{torn, never, and-right-false}
+use Rattle.lists.proofs.ListLaws.{all-cons, all-step, all-miss, all-end}
 use Rattle.lists.proofs.RegionLaws.{rows-length, rows-at}
 use Rattle.lists.proofs.SortLaws.{ascends-cons, ascends-one}
 use Rattle.format.specs.Bytes.{within}
@@ -182,11 +182,22 @@ module _ (s : List ℤ) (i : ℕ) where
   unfolding unused
   unused-whole = refl
 
-  pub zeros-miss : i < length s → (ofZ w32 (numberAt s i) ≡ 0 → ⊥) → all (ranging 0 0) (drop i s) ≡ false
-  zeros-miss h e = all-miss (ranging 0 0) (pos 0) s i h (bits-some (numberAt s i) e)
+  pub zero-out : (before : Bool) → (ofZ w32 (numberAt s i) ≡ 0 → ⊥) → false ≡ (before && ranging 0 0 (numberAt s i))
+  zero-out before e = sym (and-right-false before (ranging 0 0 (numberAt s i)) (bits-some (numberAt s i) e))
 
-  pub zeros-pass : i < length s → mag (numberAt s i) < 2 ^ 31 → ofZ w32 (numberAt s i) ≡ 0 → all (ranging 0 0) (drop i s) ≡ all (ranging 0 0) (drop (i + 1) s)
-  zeros-pass h b e = all-step (ranging 0 0) (pos 0) s i h (bits-zero (numberAt s i) b e)
+  pub zero-in : (before : Bool) → mag (numberAt s i) < 2 ^ 31 → ofZ w32 (numberAt s i) ≡ 0 → before ≡ (before && ranging 0 0 (numberAt s i))
+  zero-in before b e = rw (bits-zero (numberAt s i) b e) (sym (and-true before))
+
+  -- the numbers so far, and the rest
+  pub zeros-turn : i < length s → (fine next : Bool) → next ≡ (fine && ranging 0 0 (numberAt s i)) → (fine && all (ranging 0 0) (drop i s)) ≡ (next && all (ranging 0 0) (drop (i + 1) s))
+  zeros-turn h fine next e =
+      let rest : Bool = all (ranging 0 0) (drop (i + 1) s) in
+      let q : all (ranging 0 0) (drop i s) ≡ (ranging 0 0 (numberAt s i) && rest) =
+      ap (all (ranging 0 0)) (drop-cons s i (pos 0) h) ∙ all-cons (ranging 0 0) (numberAt s i) (drop (suc i) s) ∙ rw add-one in
+      ap (λ (b : Bool). fine && b) q ∙ sym (and-assoc fine (ranging 0 0 (numberAt s i)) rest) ∙ ap (λ (b : Bool). b && rest) (sym e)
+
+  pub zeros-end : length s ≤ i → (fine : Bool) → (fine && all (ranging 0 0) (drop i s)) ≡ fine
+  zeros-end h fine = ap (λ (b : Bool). fine && b) (all-end (ranging 0 0) s i h) ∙ and-true fine
 
   pub signs-miss : i < length s → (r : Bool) → r ≡ negative (numberAt s i) → r ≡ true → all (λ z. not (negative z)) (drop i s) ≡ false
   signs-miss h r e k = all-miss (λ z. not (negative z)) (pos 0) s i h (ap not (sym e ∙ k))

@@ -56,5 +56,5 @@ pub fn atoms_fine(table: &[i32]) -> bool
     if !each_atom_fine(table, atoms, charges, radicals) {
         return false;
     }
-    all_zero(&table[16 + 5 * atoms..Table::FIRST_BOND])
+    all_zero(&table[Table::FIRST_ATOM + 5 * atoms..Table::FIRST_BOND])
 }

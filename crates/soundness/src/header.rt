@@ -12,22 +12,22 @@ use format::Table;
 fn counts_fine(table: &[i32]) -> bool
     ensures { λ r. ⌜ r ≡ countsFine (now (table .entry)) ⌝ }
 {
-    if !ranges(table, Table::ATOM_COUNT, 1, 256) {
+    if !ranges(table, Table::ATOM_COUNT, 1, Table::ATOMS as u32) {
         return false;
     }
-    if !ranges(table, Table::BOND_COUNT, 0, 512) {
+    if !ranges(table, Table::BOND_COUNT, 0, Table::BONDS as u32) {
         return false;
     }
-    if !ranges(table, Table::CHARGE_COUNT, 0, 64) {
+    if !ranges(table, Table::CHARGE_COUNT, 0, Table::CHARGES as u32) {
         return false;
     }
-    if !ranges(table, Table::RADICAL_COUNT, 0, 64) {
+    if !ranges(table, Table::RADICAL_COUNT, 0, Table::RADICALS as u32) {
         return false;
     }
-    if !ranges(table, Table::CENTRE_COUNT, 0, 128) {
+    if !ranges(table, Table::CENTRE_COUNT, 0, Table::CENTRES as u32) {
         return false;
     }
-    if !ranges(table, Table::PAIR_COUNT, 0, 128) {
+    if !ranges(table, Table::PAIR_COUNT, 0, Table::PAIRS as u32) {
         return false;
     }
     ranges(table, Table::BLOCK_ID, 0, 999999)
@@ -41,8 +41,8 @@ pub fn header_fine(table: &[i32]) -> bool
     if !counts_fine(table) {
         return false;
     }
-    if !none_negative(&table[7..13]) {
+    if !none_negative(&table[Table::FIRST_TEXT..13]) {
         return false;
     }
-    all_zero(&table[13..16])
+    all_zero(&table[13..Table::FIRST_ATOM])
 }

@@ -121,7 +121,7 @@ pub fn bonds_fine(table: &[i32]) -> bool
 {
     let bonds = Shape {
         first: Table::FIRST_BOND,
-        room: 1536,
+        room: 3 * Table::BONDS,
         width: 3,
         members: 2,
         low: 1,
@@ -140,7 +140,7 @@ pub fn centres_fine(table: &[i32]) -> bool
 {
     let centres = Shape {
         first: Table::FIRST_CENTRE,
-        room: 384,
+        room: 3 * Table::CENTRES,
         width: 3,
         members: 1,
         low: 1,
@@ -159,7 +159,7 @@ pub fn pairs_fine(table: &[i32]) -> bool
 {
     let pairs = Shape {
         first: Table::FIRST_PAIR,
-        room: 512,
+        room: 4 * Table::PAIRS,
         width: 4,
         members: 2,
         low: 0,

@@ -11,7 +11,7 @@ use crate::parts::values_fine;
 use cells::cell;
 use format::Table;
 
-// Whether the values are fine that stand from `first` on, and 0 behind the last.
+// Whether the values are fine that stand from `first` on, and 0 behind the last. Both lists have room for as many.
 fn spread_fine(table: &[i32], first: usize, rows: usize, signed: bool) -> bool
     requires { ⌜ (3856 ≤ length (now table)) × (first ≤ 2896) × (rows ≤ 64) ⌝ }
     ensures { λ r. ⌜ r ≡ valuesFine signed first rows (now (table .entry)) ⌝ }
@@ -19,7 +19,7 @@ fn spread_fine(table: &[i32], first: usize, rows: usize, signed: bool) -> bool
     if !values_fine(&table[first..first + rows], signed) {
         return false;
     }
-    all_zero(&table[first + rows..first + 64])
+    all_zero(&table[first + rows..first + Table::CHARGES])
 }
 
 // Whether the charges' values and the order of their rows are fine.

@@ -5,6 +5,9 @@ use borrow.Author.Needs.{needs}
 use Rattle.soundness.proofs.keyed.centres_fine.Statement.{statement}
 use Rattle.soundness.proofs.keyed.centres_fine.Tie as tie
 
+mul-t5 : tie.Need-mul-t5
+mul-t5 c = search needs
+
 cell-requires : tie.Need-cell-requires
 cell-requires c κs = search needs
 
@@ -22,4 +25,4 @@ returns c = c .keyed-fine .ensures ∙ centres-is (c .before .before .before .ar
 
 pub centres-fine-spec : {M : Type 1} → statement M
 centres-fine-spec =
-    tie.close (tie.spec cell-requires cell-requires-2 cast-rows keyed-fine-requires returns)
+    tie.close (tie.spec mul-t5 cell-requires cell-requires-2 cast-rows keyed-fine-requires returns)
