@@ -17,14 +17,14 @@ use Rattle.format.specs.Table.{zeros, encode, readAnswer, tableOf, readResult}
 use Rattle.format.specs.Walking.{packed, packedResult, checkOf}
 use Rattle.format.proofs.CutLaws.{concat-cut}
 use Rattle.format.proofs.ReadingLaws.{StoppedAt, Unended, stopped, goes-at}
-use Rattle.reader.specs.Progress.{rulesOf, Holding}
-use Rattle.reader.specs.Lines.{Ruled}
+use Rattle.gather.specs.Progress.{Bounded, Holding}
+use Rattle.gather.specs.declared.progress.Progress.{Progress}
+use Rattle.publish.proofs.FillLaws.{zeros-length}
+use Rattle.reader.specs.Lines.{rulesOf, Ruled}
 use Rattle.reader.specs.Judging.{Stands, ShowsJudged}
-use Rattle.reader.specs.declared.progress.Progress.{Progress}
-use Rattle.reader.specs.declared.progress.Rules.{Rules as Given}
+use Rattle.reader.specs.declared.rules.Rules.{Rules as Given}
 use Rattle.reader.specs.declared.block.Judged.{Judged}
 use Rattle.reader.specs.declared.block.Judged.the-variants as J
-use Rattle.reader.proofs.FillLaws.{zeros-length}
 
 -- A REFUSAL'S PLACE lies in the block, or at its end
 ending-place : (e : Bool) (st : State) (n place size : ℕ) → st .at ≡ size → ending false e st ≡ Refused n place → place ≤ size
@@ -79,11 +79,11 @@ module _ (b : Bytes) (t : List ℤ) (l : 3856 ≤ length t) where
   lines-told h o e = read-enough 103 b t l ∙ ap (tableOf (drop 3856 t)) (block-lines (strict 103) b h ∙ ap readingOf e)
 
   module _ (s : List ℕ) (j : Judged) (h : length b ≤ 32768) (shows : ShowsJudged given b s j) where
-    pub read-accepted : (t′ : List ℤ) (p : Progress) → j ≡ J.Accepted p
-        → ((k : ℕ) (st : State) → Holding k b p s st → k ≤ 103 → t′ ≡ encode (finished (st .body)) (map spanOf (st .texts)) ++ drop 3856 t) → readAnswer 0 0 t′ ≡ readResult 103 b t
-    read-accepted t′ p e f =
+    pub read-accepted : (t′ : List ℤ) (p : Progress) → j ≡ J.Accepted p → length s ≡ 2960
+        → ((k : ℕ) (st : State) → 3856 ≤ length t → length s ≡ 2960 → length b ≤ 32768 → Bounded (length b) p → Holding k b p s st → k ≤ 103 → t′ ≡ encode (finished (st .body)) (map spanOf (st .texts)) ++ drop 3856 t) → readAnswer 0 0 t′ ≡ readResult 103 b t
+    read-accepted t′ p e long f =
         let g = stands given b s j shows p e in
-        ap (readAnswer 0 0) (f 103 (g .state) (g .holding) (omega arith)) ∙ sym (lines-told h (Accepted (g .state)) (g .is))
+        ap (readAnswer 0 0) (f 103 (g .state) l long h (g .bounded) (g .holding) (omega arith)) ∙ sym (lines-told h (Accepted (g .state)) (g .is))
 
     pub read-refused : (t′ : List ℤ) (n place : ℕ) → j ≡ J.Refused n place → t′ ≡ zeros 3856 ++ drop 3856 t → readAnswer n place t′ ≡ readResult 103 b t
     read-refused t′ n place e f = ap (readAnswer n place) f ∙ sym (lines-told h (Refused n place) (refuses given b s j shows n place e))

@@ -22,16 +22,16 @@ use Rattle.format.proofs.CutLaws.{cut-at, cut-nil}
 use Rattle.format.proofs.ReadingLaws.{read-go, read-stop, read-end, Went, further, started, step-went}
 use Rattle.scan.specs.Cuts.{LineEnd}
 use Rattle.scan.specs.ShownLines.{byCode}
-use Rattle.reader.specs.Regions.{kindsRegion, memberOf, membersFrom, arrived, voidOf, spreadRegion, keyedRegion, seenFrom, topOf}
-use Rattle.reader.specs.Progress.{rulesOf, partOf, laid, Within, Bounded, BoundedTurn, Flowing, FlowingTurn, Listed, entryFine}
-use Rattle.reader.specs.Shows.{Shows, ShowsTurn}
-use Rattle.reader.specs.Lines.{begun}
+use Rattle.sorted.specs.Regions.{kindsRegion, memberOf, membersFrom, arrived, voidOf, spreadRegion, keyedRegion, seenFrom, topOf}
+use Rattle.sorted.proofs.FitLaws.{fits-nil}
+use Rattle.gather.specs.Progress.{partOf, laid, Within, Bounded, BoundedTurn, Flowing, FlowingTurn, Listed, entryFine}
+use Rattle.gather.specs.Shows.{Shows, ShowsTurn}
+use Rattle.gather.specs.declared.progress.Progress.{Progress}
+use Rattle.gather.specs.declared.progress.Turn.{Turn}
+use Rattle.gather.specs.declared.progress.Turn.the-variants.{Go, Stop}
+use Rattle.reader.specs.Lines.{rulesOf, begun}
 use Rattle.reader.specs.Judging.{Stands, unreadYet}
-use Rattle.reader.specs.declared.progress.Progress.{Progress}
-use Rattle.reader.specs.declared.progress.Rules.{Rules as Given}
-use Rattle.reader.specs.declared.progress.Turn.{Turn}
-use Rattle.reader.specs.declared.progress.Turn.the-variants.{Go, Stop}
-use Rattle.reader.proofs.FitLaws.{fits-nil}
+use Rattle.reader.specs.declared.rules.Rules.{Rules as Given}
 use Rattle.reader.proofs.StepTurnLaws.{part-length}
 use Rattle.reader.proofs.LabelTurnLaws.{over-code, nil-top}
 

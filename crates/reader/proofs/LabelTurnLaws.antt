@@ -19,17 +19,18 @@ use Rattle.format.proofs.ReadingLaws.{step-byte, step-first, step-on, line-plai
 use Rattle.scan.specs.ShownLines.{byCode, shownLine, ShowsLine}
 use Rattle.scan.specs.declared.labels.LineKind.{LineKind}
 use Rattle.scan.specs.declared.labels.LineKind.the-variants as K
-use Rattle.reader.specs.Regions.{seenFrom, topOf}
-use Rattle.reader.specs.Progress.{rulesOf, partOf, laid, Bounded, BoundedTurn, FlowingTurn}
-use Rattle.reader.specs.Shows.{Shows, ShowsTurn}
-use Rattle.reader.specs.Lines.{altered, labelTurn, begun}
-use Rattle.reader.specs.declared.progress.Progress.{Progress}
-use Rattle.reader.specs.declared.progress.Rules.{Rules as Given}
-use Rattle.reader.specs.declared.progress.Turn.{Turn}
-use Rattle.reader.specs.declared.progress.Turn.the-variants.{Stop}
+use Rattle.sorted.specs.Regions.{seenFrom, topOf}
+use Rattle.gather.specs.Progress.{partOf, laid, Bounded, BoundedTurn, FlowingTurn, altered}
+use Rattle.gather.specs.Shows.{Shows, ShowsTurn}
+use Rattle.gather.specs.declared.progress.Progress.{Progress}
+use Rattle.gather.specs.declared.progress.Turn.{Turn}
+use Rattle.gather.specs.declared.progress.Turn.the-variants.{Stop}
+use Rattle.gather.proofs.LaidLaws.{sized, seen-seated}
+use Rattle.gather.proofs.ListLineLaws.{turn-shown}
+use Rattle.reader.specs.Lines.{rulesOf, labelTurn, begun}
+use Rattle.reader.specs.declared.rules.Rules.{Rules as Given}
 use Rattle.reader.proofs.SeenLaws.{known-told, Noted}
-use Rattle.reader.proofs.LaidLaws.{sized, seen-seated}
-use Rattle.reader.proofs.LineTurnLaws.{stop-shown, turn-shown, listed-as, counted-as}
+use Rattle.reader.proofs.LineTurnLaws.{stop-shown, listed-as, counted-as}
 use Rattle.reader.proofs.StepTurnLaws.{part-length, part-drop}
 
 -- ONLY END IS OVER

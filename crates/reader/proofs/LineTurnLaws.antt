@@ -1,40 +1,38 @@
--- The turns of a value on its label line, of a blank line, of END and of a list's line, from what the code's answers say: document 01, "Rows" and "Refusal
--- numbers". Assumes nothing.
-use Prim.Native.Nat.{ℕ, zero, suc, _≤_}
+-- The turns of a value on its label line, of a blank line and of END, from what the code's answers say: document 01, "Rows" and "Refusal numbers". Assumes nothing.
+use Prim.Native.Nat.{ℕ, zero, suc, _≤_, _<_}
 use mathlib.Core.Path.{_≡_, refl, sym, ap, _∙_}
 use mathlib.Core.Bool.{Bool, true, false, _&&_, _||_, not}
 use mathlib.Core.Option.{Option, none, some}
 use mathlib.Core.List.{List, [], _∷_}
 use native.Mathlib.Omega.{arith}
 use lib.ListN.{length, take, drop}
+use lib.Seq.{length-take-le}
 use lib.Dec.{eqb}
 use borrow.Author.Tests.{eq-eqb, ne-eqb}
 use Rattle.lists.specs.Lists.{isNil, all, any}
 use Rattle.format.specs.Bytes.{Bytes, gap}
-use Rattle.format.specs.Labels.{ListOf, Bonds, Charges, Radicals, Centres, Pairs, Label, label, known}
+use Rattle.format.specs.Labels.{ListOf, Bonds, Charges, Radicals, Centres, Pairs, Label}
 use Rattle.format.specs.Formula.{Counted as Told, formulaShape}
 use Rattle.format.specs.Structure.{Atom, rowsOf, unknown, atomOk, entriesOf, agree}
-use Rattle.format.specs.Reading.{State, if_stop_else_, withBody, withId, withFormula, atomCount, atomLine, rowLine, versionTurn, idTurn, formulaTurn, blankOr, lacks, endTurn}
+use Rattle.format.specs.Reading.{State, if_stop_else_, withBody, withId, withFormula, atomCount, versionTurn, idTurn, formulaTurn, blankOr, lacks, endTurn}
 use Rattle.format.specs.Reading.{Go as going, Stop as stopping, Turn as Turned}
-use Rattle.scan.specs.ShownLines.{byCode}
 use Rattle.rows.specs.Verdicts.{verdictOf, entriesVerdict, formulaVerdict, turnOf}
 use Rattle.rows.specs.Totals.{formulaEntries}
 use Rattle.rows.proofs.VerdictLaws.{formula-turn}
-use Rattle.reader.specs.Regions.{kindsRegion, seenFrom, Fits}
-use Rattle.reader.specs.Progress.{rulesOf, partOf, countOf, entriesFrom, formulaAt, laid, Counted, Bounded, Listed, entryFine}
-use Rattle.reader.specs.Shows.{Shows, ShowsTurn}
+use Rattle.sorted.specs.Regions.{kindsRegion, seenFrom, Fits}
+use Rattle.gather.specs.Progress.{partOf, countOf, entriesFrom, formulaAt, laid, Counted, Bounded, Listed, entryFine, altered}
+use Rattle.gather.specs.Shows.{Shows, ShowsTurn}
+use Rattle.gather.specs.declared.progress.Part.{Part}
+use Rattle.gather.specs.declared.progress.Progress.{Progress}
+use Rattle.gather.specs.declared.progress.Turn.the-variants.{Go, Stop}
+use Rattle.gather.proofs.LaidLaws.{sized, atoms-seated, seen-seated}
+use Rattle.gather.proofs.KindLaws.{countedIn, formula-fine}
+use Rattle.reader.specs.Lines.{rulesOf, withTexts, textPut}
 use Rattle.reader.specs.Values.{ShowsId}
-use Rattle.reader.specs.Lines.{altered, listLine, withTexts, textPut}
-use Rattle.reader.specs.declared.progress.Part.{Part}
-use Rattle.reader.specs.declared.progress.Progress.{Progress}
-use Rattle.reader.specs.declared.progress.Rules.{Rules as Given}
-use Rattle.reader.specs.declared.progress.Turn.{Turn}
-use Rattle.reader.specs.declared.progress.Turn.the-variants.{Go, Stop}
+use Rattle.reader.specs.declared.rules.Rules.{Rules as Given}
 use Rattle.reader.specs.declared.values.BlockId.{BlockId as Answered}
 use Rattle.reader.specs.declared.values.BlockId.the-variants as Id
-use Rattle.reader.proofs.LaidLaws.{sized, atoms-seated, seen-seated}
 use Rattle.reader.proofs.ValueLaws.{isVersion}
-use Rattle.reader.proofs.KindLaws.{countedIn, formula-fine}
 
 -- AN ANSWER SHOWS a turn that goes on, or one that stops
 pub go-shown : (k : ℕ) (block : Bytes) (at : ℕ) (q : Progress) (t : List ℕ) (next : State) (turned : Turned) → turned ≡ going next → Shows k block at q t next → ShowsTurn k block at (Go q) t turned
@@ -42,9 +40,6 @@ go-shown k block at q t next turned e h = rw e h
 
 pub stop-shown : (k : ℕ) (block : Bytes) (at : ℕ) (t : List ℕ) (n : ℕ) (turned : Turned) → turned ≡ stopping n → ShowsTurn k block at (Stop n) t turned
 stop-shown k block at t n turned e = rw e refl
-
-pub turn-shown : (k : ℕ) (block : Bytes) (at : ℕ) (r : Turn) (t : List ℕ) (turned other : Turned) → turned ≡ other → ShowsTurn k block at r t other → ShowsTurn k block at r t turned
-turn-shown k block at r t turned other e h = rw e h
 
 -- JCAMP-CS
 module _ (st : State) (fs : List Bytes) (b : Bool) (e : b ≡ isVersion fs) where
@@ -191,36 +186,11 @@ module _ (c : ℕ) (x : Part) (p : Progress) where
   unfolding textPut
   text-owner a b = rw (ne-eqb c 1 a, ne-eqb c 3 b, textPut)
 
--- A LINE OF A LIST, by its label's code
-module _ (code k : ℕ) (st : State) (fs : List Bytes) where
-  held-as : (c : ℕ) → code ≡ c → listLine code k st fs ≡ listLine c k st fs
-  held-as c e = ap (λ (n : ℕ). listLine n k st fs) e
-
-  pub list-atoms : code ≡ 6 → listLine code k st fs ≡ atomLine k st fs
-  unfolding byCode known label
-  list-atoms e = held-as 6 e
-
-  pub list-bonds : code ≡ 7 → listLine code k st fs ≡ rowLine Bonds st fs
-  unfolding byCode known label
-  list-bonds e = held-as 7 e
-
-  pub list-charges : code ≡ 8 → listLine code k st fs ≡ rowLine Charges st fs
-  unfolding byCode known label
-  list-charges e = held-as 8 e
-
-  pub list-radicals : code ≡ 9 → listLine code k st fs ≡ rowLine Radicals st fs
-  unfolding byCode known label
-  list-radicals e = held-as 9 e
-
-  pub list-centres : code ≡ 10 → listLine code k st fs ≡ rowLine Centres st fs
-  unfolding byCode known label
-  list-centres e = held-as 10 e
-
-  pub list-pairs : code ≡ 11 → listLine code k st fs ≡ rowLine Pairs st fs
-  unfolding byCode known label
-  list-pairs e = held-as 11 e
-
 -- END
+some-of : (n : ℕ) → (n ≡ 0 → ⊥) → 0 < n
+some-of zero h = absurd (h refl)
+some-of (suc n) h = omega arith
+
 module _ (u : Given) (block : Bytes) (at : ℕ) (p : Progress) (t : List ℕ) (st : State) (c : Counted p) (h : Shows (u .last) block at p t st) (fs : List Bytes) where
   seen-part : take 14 (drop 2946 t) ≡ seenFrom 14 0 (st .seen)
   seen-part = ap (λ (s : List ℕ). take 14 (drop 2946 s)) (h .holding .scratch) ∙ seen-seated st (sized p st c (h .holding .listed)) .0
@@ -267,10 +237,11 @@ module _ (u : Given) (block : Bytes) (at : ℕ) (p : Progress) (t : List ℕ) (s
       end-agrees q = end-is false false true false (lack-is false e) (none-listed n) f (tested true q)
 
   -- what the totals' function promises, said of this state
-  pub totals-told : (same : Bool)
-      → ((listed : List Atom) → length listed ≡ p .atoms → take 768 (drop 0 t) ≡ kindsRegion listed → all (atomOk (u .last)) listed ≡ true → all (entryFine (u .last)) (formulaAt (u .last) block (p .formula)) ≡ true
+  pub totals-told : length t ≡ 2960 → (p .atoms ≡ 0 → ⊥) → u .last ≤ 103 → (same : Bool)
+      → ((listed : List Atom) → length (take 768 (drop 0 t)) ≡ 768 → 0 < p .atoms → p .atoms ≤ 256 → u .last ≤ 103 → length listed ≡ p .atoms → take 768 (drop 0 t) ≡ kindsRegion listed → all (atomOk (u .last)) listed ≡ true → all (entryFine (u .last)) (formulaAt (u .last) block (p .formula)) ≡ true
       → same ≡ agree (formulaAt (u .last) block (p .formula)) (entriesOf listed)) → same ≡ agree (st .formula) (entriesOf (st .body .atoms))
-  totals-told same f =
+  totals-told long n most same f =
       let w = h .holding in
-      f (st .body .atoms) (w .listed .atoms) (ap (λ (s : List ℕ). take 768 (drop 0 s)) (w .scratch) ∙ atoms-seated st (sized p st c (w .listed)) .0) (w .kinds) (rw (sym (w .formula)) (w .formula-fine))
+      let more : 0 < p .atoms = some-of (p .atoms) n in
+      f (st .body .atoms) (length-take-le 768 t (omega (arith, long))) more (c .atoms) most (w .listed .atoms) (ap (λ (s : List ℕ). take 768 (drop 0 s)) (w .scratch) ∙ atoms-seated st (sized p st c (w .listed)) .0) (w .kinds) (rw (sym (w .formula)) (w .formula-fine))
       ∙ ap (λ es. agree es (entriesOf (st .body .atoms))) (sym (w .formula))

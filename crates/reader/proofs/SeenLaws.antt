@@ -4,7 +4,7 @@ use mathlib.Core.Path.{_≡_, refl, sym, ap, _∙_}
 use mathlib.Core.Bool.{Bool, true, false, _||_, not}
 use mathlib.Core.List.{List, [], _∷_}
 use native.Mathlib.Omega.{arith}
-use lib.ListN.{length, getD, set}
+use lib.ListN.{getD, set}
 use lib.Dec.{eqb, ltb}
 use borrow.Author.Tests.{eq-eqb, ne-eqb, lt-ltb, le-ltb, ltb-true, ltb-false}
 use Rattle.lists.specs.Lists.{any}
@@ -13,7 +13,7 @@ use Rattle.lists.proofs.ListLaws.{any-or}
 use Rattle.format.specs.Labels.{Label, label, known, lookup, misplaced}
 use Rattle.format.specs.Reading.{noted, lacks}
 use Rattle.scan.specs.ShownLines.{byCode}
-use Rattle.reader.specs.Regions.{mark, sawCode, seenFrom, topOf}
+use Rattle.sorted.specs.Regions.{mark, sawCode, seenFrom, topOf}
 
 -- WHERE THE INTERVALS BEGIN AND END, by code
 abbrev pub lows : List ℕ
@@ -44,11 +44,6 @@ known-told (suc (suc (suc (suc (suc (suc (suc (suc (suc (suc (suc (suc (suc zero
 known-told (suc (suc (suc (suc (suc (suc (suc (suc (suc (suc (suc (suc (suc (suc n)))))))))))))) h = absurd (omega arith)
 
 -- THE LABELS SEEN, BY CODE
-pub seen-length : (k c : ℕ) (seen : List Label) → length (seenFrom k c seen) ≡ k
-unfolding seenFrom
-seen-length zero c seen = refl
-seen-length (suc k) c seen = ap suc (seen-length k (suc c) seen)
-
 seen-from : (k c i : ℕ) (seen : List Label) → i < k → getD (seenFrom k c seen) i 0 ≡ mark (sawCode (c + i) seen)
 unfolding seenFrom
 seen-from zero c i seen h = absurd (omega arith)

@@ -16,15 +16,17 @@ use Rattle.format.specs.Reading.{Rules, Prose, prose, State, withText, extended
 use Rattle.format.specs.Reading.{Go as going, Turn as Turned}
 use Rattle.scan.specs.Cuts.{Uncommented}
 use Rattle.scan.specs.ShownLines.{byCode}
-use Rattle.reader.specs.Progress.{rulesOf, partOf, proseAt, laid, Within, CountedTurn, Bounded, BoundedTurn, Flowing, FlowingTurn}
-use Rattle.reader.specs.Shows.{Shows, ShowsTurn}
-use Rattle.reader.specs.Lines.{listLine, KeptTurn, SameRunning, withTexts, textPut}
-use Rattle.reader.specs.declared.progress.Part.{Part}
-use Rattle.reader.specs.declared.progress.Progress.{Progress}
-use Rattle.reader.specs.declared.progress.Rules.{Rules as Given}
-use Rattle.reader.specs.declared.progress.Turn.{Turn}
-use Rattle.reader.specs.declared.progress.Turn.the-variants.{Go, Stop}
-use Rattle.reader.proofs.LineTurnLaws.{go-shown, turn-shown, listed-as, counted-as, text-title, text-origin, text-owner}
+use Rattle.gather.specs.Progress.{partOf, proseAt, laid, Within, Counted, CountedTurn, Bounded, BoundedTurn, Flowing, FlowingTurn}
+use Rattle.gather.specs.Shows.{Shows, ShowsTurn}
+use Rattle.gather.specs.ListLine.{listLine}
+use Rattle.gather.specs.declared.progress.Part.{Part}
+use Rattle.gather.specs.declared.progress.Progress.{Progress}
+use Rattle.gather.specs.declared.progress.Turn.{Turn}
+use Rattle.gather.specs.declared.progress.Turn.the-variants.{Go, Stop}
+use Rattle.gather.proofs.ListLineLaws.{turn-shown}
+use Rattle.reader.specs.Lines.{rulesOf, KeptTurn, SameRunning, withTexts, textPut}
+use Rattle.reader.specs.declared.rules.Rules.{Rules as Given}
+use Rattle.reader.proofs.LineTurnLaws.{go-shown, listed-as, counted-as, text-title, text-origin, text-owner}
 
 -- PARTS OF A BLOCK
 module _ (block : Bytes) where
@@ -160,6 +162,13 @@ module _ (block : Bytes) (from end : ℕ) (p : Progress) (t : List ℕ) (b : Bou
       )
 
 -- THE LISTS' CODES
+-- what a line of a list promises, by the code of the record that runs
+abbrev pub ListPromise : (k : ℕ) → Progress → List ℕ → Turn → List ℕ → List Bytes → Type 0
+ListPromise k p t r s fs =
+    (length s ≡ length t)
+    × (length t ≡ 2960 → Counted p → 1 ≤ k → 6 ≤ p .running → p .running ≤ 11
+    → CountedTurn p r × ((block : Bytes) (at : ℕ) (st : State) → Shows k block at p t st → ShowsTurn k block at r s (listLine (p .running) k st fs)))
+
 -- what is no other record's code is a list's
 pub list-code : (n : ℕ) → n < 14 → (n ≡ 0 → ⊥) → (n ≡ 1 → ⊥) → (n ≡ 3 → ⊥) → (n ≡ 4 → ⊥) → (n ≡ 2 → ⊥) → (n ≡ 5 → ⊥) → (n ≡ 12 → ⊥) → (n ≡ 13 → ⊥) → (6 ≤ n) × (n ≤ 11)
 list-code zero h a b d e c f y z = absurd (a refl)
@@ -288,15 +297,17 @@ module _ (block : Bytes) (from end : ℕ) (u : Given) (p : Progress) (t : List �
       λ at st s. turn-shown (u .last) block at r t _ _ (value-at 13 e st ∙ stripped (λ v. endTurn (rulesOf u) st (fields v))) (q .1 at st s),
     )
 
-    pub value-list : (s : List ℕ) → 6 ≤ p .running → p .running ≤ 11
-        → (length s ≡ 2960) × CountedTurn p r × ((whole : Bytes) (at : ℕ) (st : State) → Shows (u .last) whole at p t st → ShowsTurn (u .last) whole at r s (listLine (p .running) (u .last) st (fields (partOf block from (from + m)))))
+    pub value-list : (s : List ℕ) → (6 ≤ p .running) × (p .running ≤ 11) → 1 ≤ u .last
+        → ListPromise (u .last) p t r s (fields (partOf block from (from + m)))
         → ValuePromise r s
-    value-list s low high q = (
-      q .0,
-      counted-bounded (length block) p r (q .1) b,
-      flowing-silent end p r (counted-running p r (q .1)) (six-silent (p .running) low),
-      λ at st w. turn-shown (u .last) block at r s _ _ (value-as-list (rulesOf u) (p .running) from (partOf block from end) st low high ∙ stripped (λ v. listLine (p .running) (u .last) st (fields v))) (q .2 block at st w),
-    )
+    value-list s code one q =
+        let w = q .1 long (b .counted) one (code .0) (code .1) in (
+          q .0 ∙ long,
+          counted-bounded (length block) p r (w .0) b,
+          flowing-silent end p r (counted-running p r (w .0)) (six-silent (p .running) (code .0)),
+          λ at st v. turn-shown (u .last) block at r s _ _
+              (value-as-list (rulesOf u) (p .running) from (partOf block from end) st (code .0) (code .1) ∙ stripped (λ x. listLine (p .running) (u .last) st (fields x))) (w .1 block at st v),
+        )
 
 -- A FURTHER LINE OF THE RECORD
 module _ (block : Bytes) (at end : ℕ) (u : Given) (p : Progress) (t : List ℕ) (long : length t ≡ 2960) (b : Bounded (length block) p) (f : Flowing at p) (h : at ≤ end) (l : end ≤ length block) where
@@ -380,14 +391,15 @@ module _ (block : Bytes) (at end : ℕ) (u : Given) (p : Progress) (t : List ℕ
     unfolding byCode known label furtherTurn
     further-id e q = further-blank (ap silent e) (λ st s. further-at 12 e st s) q
 
-    pub further-list : (s : List ℕ) → 6 ≤ p .running → p .running ≤ 11
-        → (length s ≡ 2960) × CountedTurn p r × ((whole : Bytes) (place : ℕ) (st : State) → Shows (u .last) whole place p t st → ShowsTurn (u .last) whole place r s (listLine (p .running) (u .last) st (fields (partOf block at (at + m)))))
+    pub further-list : (s : List ℕ) → (6 ≤ p .running) × (p .running ≤ 11) → 1 ≤ u .last
+        → ListPromise (u .last) p t r s (fields (partOf block at (at + m)))
         → FurtherPromise r s
-    further-list s low high q = (
-      q .0,
-      counted-bounded (length block) p r (q .1) b,
-      flowing-silent end p r (counted-running p r (q .1)) (six-silent (p .running) low),
-      λ st w. turn-shown (u .last) block at r s _ _
-          (further-at (p .running) refl st w ∙ further-as-list (rulesOf u) (p .running) (partOf block at end) st low high
-          ∙ ap (λ (v : Bytes). listLine (p .running) (u .last) st (fields v)) (strip-part block at end m h l c)) (q .2 block at st w),
-    )
+    further-list s code one q =
+        let w = q .1 long (b .counted) one (code .0) (code .1) in (
+          q .0 ∙ long,
+          counted-bounded (length block) p r (w .0) b,
+          flowing-silent end p r (counted-running p r (w .0)) (six-silent (p .running) (code .0)),
+          λ st v. turn-shown (u .last) block at r s _ _
+              (further-at (p .running) refl st v ∙ further-as-list (rulesOf u) (p .running) (partOf block at end) st (code .0) (code .1)
+              ∙ ap (λ (x : Bytes). listLine (p .running) (u .last) st (fields x)) (strip-part block at end m h l c)) (w .1 block at st v),
+        )

@@ -5,9 +5,10 @@ use Prim.Native.Nat.{ℕ}
 use lib.ListN.{length}
 use Rattle.format.specs.Bytes.{Bytes, cut}
 use Rattle.format.specs.Reading.{State, Accepted, Refused, readLines, start}
-use Rattle.reader.specs.Progress.{rulesOf, Bounded, Holding}
-use Rattle.reader.specs.declared.progress.Progress.{Progress}
-use Rattle.reader.specs.declared.progress.Rules.{Rules as Given}
+use Rattle.gather.specs.Progress.{Bounded, Holding}
+use Rattle.gather.specs.declared.progress.Progress.{Progress}
+use Rattle.reader.specs.Lines.{rulesOf}
+use Rattle.reader.specs.declared.rules.Rules.{Rules as Given}
 use Rattle.reader.specs.declared.block.Judged.{Judged}
 use Rattle.reader.specs.declared.block.Judged.the-variants as J
 

@@ -6,10 +6,10 @@ ghost use Rattle.lists.specs.Lists.{filled};
 ghost use Rattle.reader.specs.Lines.{Ruled};
 ghost use Rattle.reader.specs.Judging.{ShowsJudged, unreadYet};
 use crate::line::line_step;
-use crate::progress::Part;
-use crate::progress::Progress;
-use crate::progress::Rules;
-use crate::progress::Turn;
+use crate::rules::Rules;
+use gather::progress::Part;
+use gather::progress::Progress;
+use gather::progress::Turn;
 use scan::lines::line_end;
 
 // A block's judgement: what is known at its end, or the refusal's number and place.

@@ -1,21 +1,9 @@
 // Reading one block into a table: document 01, "Lines and labels", "Rows", "Refusal numbers".
-mod after; // after.rt: what a line leaves of its list
-mod join; // join.rt: a row put to its place in a sorted list
-mod keyed; // keyed.rt: lines of bonds, centres and pairs
-mod spread; // spread.rt: CHARGE and RADICAL
-mod numbering; // numbering.rt: charge and radical rows in order
-mod atoms; // atoms.rt: lines of ATOMLIST
-mod totals; // totals.rt: the formula against the atoms
-mod progress; // progress.rt: what is known before a line
+mod block; // block.rt: the lines of a block in turn
+mod line; // line.rt: one line of a block
+mod rules; // rules.rt: what a reading goes by
 mod seen; // seen.rt: the labels seen so far and their order
 mod values; // values.rt: the values that stand on their label line
-mod turns; // turns.rt: each list's line in the whole scratch
-mod line; // line.rt: one line of a block
-mod fill; // fill.rt: the regions of the table
-mod header; // header.rt: the first sixteen numbers of the table
-mod records; // records.rt: the atoms of the table, charge and radical values
-mod publish; // publish.rt: the structure in the table
-mod block; // block.rt: the lines of a block in turn
 
 ghost use mathlib.Core.Path.{_≡_};
 ghost use Prim.Native.Nat.{_≤_};
@@ -23,7 +11,7 @@ ghost use Rattle.format.specs.Table.{readResult};
 ghost use Rattle.format.specs.Walking.{packed, checkOf};
 ghost use Rattle.reader.specs.Answers.{shownRead};
 use crate::block::Judged;
-use crate::progress::Rules;
+use crate::rules::Rules;
 use format::Table;
 
 // "Accepted is 0, place 0", or the refusal's number and place.
@@ -41,7 +29,7 @@ pub fn read(block: &[u8], table: &mut [i32]) -> Answer
         return Answer::Refused(1, 0);
     }
     if Table::BLOCK < block.len() {
-        fill::clear(table);
+        publish::clear(table);
         return Answer::Refused(2, 0);
     }
     let mut scratch = [0u32; 2960];
@@ -59,7 +47,7 @@ pub fn read(block: &[u8], table: &mut [i32]) -> Answer
             Answer::Accepted
         }
         Judged::Refused(number, place) => {
-            fill::clear(table);
+            publish::clear(table);
             Answer::Refused(number, place)
         }
     }

@@ -11,49 +11,28 @@ ghost use Rattle.format.specs.Labels.{known};
 ghost use Rattle.format.specs.Formula.{formulaShape};
 ghost use Rattle.format.specs.Reading.{State, versionTurn, idTurn, formulaTurn, blankOr, endTurn, valueTurn, furtherTurn, lineStep};
 ghost use Rattle.scan.specs.ShownLines.{byCode};
-ghost use Rattle.reader.specs.declared.progress.Turn.the-variants.{Go};
-ghost use Rattle.reader.specs.Progress.{rulesOf, partOf, Counted, CountedTurn, Bounded, BoundedTurn, Flowing, FlowingTurn};
-ghost use Rattle.reader.specs.Shows.{Shows, ShowsTurn};
-ghost use Rattle.reader.specs.Lines.{Ruled, listLine, KeptTurn, SameRunning, textPut, labelTurn, begun};
-use crate::progress::Part;
-use crate::progress::Progress;
-use crate::progress::Rules;
-use crate::progress::Turn;
+ghost use Rattle.gather.specs.Progress.{partOf, Bounded, BoundedTurn, Flowing, FlowingTurn};
+ghost use Rattle.gather.specs.Shows.{Shows, ShowsTurn};
+ghost use Rattle.gather.specs.declared.progress.Turn.the-variants.{Go};
+ghost use Rattle.reader.specs.Lines.{rulesOf, Ruled, KeptTurn, SameRunning, textPut, labelTurn, begun};
+use crate::rules::Rules;
 use crate::seen::lacking;
 use crate::seen::note;
 use crate::seen::out_of_order;
-use crate::totals::agrees;
-use crate::turns::atoms_turn;
-use crate::turns::bonds_turn;
-use crate::turns::centres_turn;
-use crate::turns::charges_turn;
-use crate::turns::pairs_turn;
-use crate::turns::radicals_turn;
 use crate::values::BlockId;
 use crate::values::block_id;
 use crate::values::is_version;
+use gather::list_turn;
+use gather::progress::Part;
+use gather::progress::Progress;
+use gather::progress::Turn;
 use rows::molform::formula_verdict;
 use scan::labels::LineKind;
 use scan::labels::line_kind;
 use scan::lines::blank;
 use scan::lines::clean;
 use scan::lines::uncommented;
-
-// A line of the list whose label has the code: 6 ATOMLIST, 7 BONDLIST, 8 CHARGE, 9 RADICAL, 10 STEREOCENTER, 11 STEREOPAIR. The line is without its comment.
-fn list_turn(line: &[u8], code: u32, last: u32, p: Progress, scratch: &mut [u32]) -> Turn
-    requires { ⌜ (length (now scratch) ≡ 2960) × Counted p × (6 ≤ code) × (code ≤ 11) × (1 ≤ last) ⌝ }
-    ensures { λ r. ⌜ (length (now (scratch .exit)) ≡ 2960) × CountedTurn p r × ((block : Bytes) (at : ℕ) (st : State) → Shows last block at p (now (scratch .entry)) st →
-        ShowsTurn last block at r (now (scratch .exit)) (listLine code last st (fields (now (line .entry))))) ⌝ }
-{
-    match code {
-        6 => atoms_turn(line, last, p, scratch),
-        7 => bonds_turn(line, p, scratch),
-        8 => charges_turn(line, p, scratch),
-        9 => radicals_turn(line, p, scratch),
-        10 => centres_turn(line, p, scratch),
-        _ => pairs_turn(line, p, scratch),
-    }
-}
+use totals::agrees;
 
 // The END line, its value from `from` to `to` without its comment: 8 a record missing, 9 a value, 15 formula and atoms differ.
 fn end_turn(block: &[u8], from: usize, to: usize, u: Rules, p: Progress, scratch: &[u32]) -> Turn

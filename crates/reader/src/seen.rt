@@ -7,7 +7,7 @@ ghost use Rattle.lists.specs.Lists.{any};
 ghost use Rattle.format.specs.Labels.{Label, known, misplaced};
 ghost use Rattle.format.specs.Reading.{noted, lacks};
 ghost use Rattle.scan.specs.ShownLines.{byCode};
-ghost use Rattle.reader.specs.Regions.{seenFrom, topOf};
+ghost use Rattle.sorted.specs.Regions.{seenFrom, topOf};
 
 // Where the interval of each label begins and ends, by code; b must follow a where a's interval ends before b's begins.
 const LOW: [u32; 14] = [0, 1, 2, 3, 4, 5, 6, 7, 8, 9, 9, 9, 3, 10];

@@ -1,7 +1,6 @@
 // The values that stand on their label line: JCAMP-CS and BLOCK_ID. Document 01, "Rows". The line lent is what follows `=`, without its comment.
 ghost use mathlib.Core.Path.{_≡_};
 ghost use mathlib.Core.Bool.{_&&_};
-ghost use Prim.Native.Nat.{_≤_};
 ghost use lib.ListN.{drop};
 ghost use Rattle.lists.specs.Lists.{isNil};
 ghost use Rattle.format.specs.Bytes.{bytes, same, fields};

@@ -4,7 +4,7 @@ use mathlib.Core.Path.{_≡_, sym, _∙_}
 use native.Mathlib.Omega.{arith}
 use lib.ListN.{length}
 use borrow.Author.Needs.{needs}
-use Rattle.reader.specs.Progress.{Bounded, Flowing}
+use Rattle.gather.specs.Progress.{Bounded, Flowing}
 use Rattle.reader.proofs.BlockLaws.{Going, holds-start, bounded-go, flowing-go, went, stopped, accepts, empty-refused, endless-refused}
 use Rattle.reader.proofs.block.judge.Statement.{statement}
 use Rattle.reader.proofs.block.judge.Tie as tie

@@ -2,7 +2,7 @@
 use mathlib.Core.Path.{refl, sym, _∙_}
 use borrow.Author.Tests.{not-true, not-false}
 use Rattle.format.specs.Bytes.{fields}
-use Rattle.reader.specs.Progress.{partOf}
+use Rattle.gather.specs.Progress.{partOf}
 use Rattle.reader.proofs.ValueLaws.{fields-blank}
 use Rattle.reader.proofs.LineTurnLaws.{go-shown, stop-shown, end-lacking, end-atomless, end-valued, end-untested, end-differs, end-agrees, totals-told}
 use borrow.Author.Needs.{needs}
@@ -67,10 +67,10 @@ agrees-requires : tie.Need-agrees-requires
 agrees-requires c κs = search needs
 
 returns-5 : tie.Need-returns-5
-returns-5 c = (tt, λ at st h. stop-shown (c .before .before .before .before .before .before .before .before .before .before .before .before .before .before .before .before .before .args .u .last) (c .before .before .before .before .before .before .before .before .before .before .before .before .before .before .before .before .before .args .block .now) at (c .before .before .before .before .before .before .before .before .before .before .before .before .before .before .before .before .before .args .scratch .now) 15 _ (end-differs (c .before .before .before .before .before .before .before .before .before .before .before .before .before .before .before .before .before .args .u) (c .before .before .before .before .before .before .before .before .before .before .before .before .before .before .before .before .before .args .block .now) at (c .before .before .before .before .before .before .before .before .before .before .before .before .before .before .before .before .before .args .p) (c .before .before .before .before .before .before .before .before .before .before .before .before .before .before .before .before .before .args .scratch .now) st (c .before .before .before .before .before .before .before .before .before .before .before .before .before .before .before .before .before .pre .1 .counted) h (fields (partOf (c .before .before .before .before .before .before .before .before .before .before .before .before .before .before .before .before .before .args .block .now) (c .before .before .before .before .before .before .before .before .before .before .before .before .before .before .before .before .before .args .from) (c .before .before .before .before .before .before .before .before .before .before .before .before .before .before .before .before .before .args .to))) (c .before .before .before .before .before .before .before .before .before .before .before .before .before .lacking .result) (c .before .before .before .before .before .before .before .before .before .before .before .before .before .lacking .ensures) (c .before .agrees .result) (totals-told (c .before .before .before .before .before .before .before .before .before .before .before .before .before .before .before .before .before .args .u) (c .before .before .before .before .before .before .before .before .before .before .before .before .before .before .before .before .before .args .block .now) at (c .before .before .before .before .before .before .before .before .before .before .before .before .before .before .before .before .before .args .p) (c .before .before .before .before .before .before .before .before .before .before .before .before .before .before .before .before .before .args .scratch .now) st (c .before .before .before .before .before .before .before .before .before .before .before .before .before .before .before .before .before .pre .1 .counted) h (fields (partOf (c .before .before .before .before .before .before .before .before .before .before .before .before .before .before .before .before .before .args .block .now) (c .before .before .before .before .before .before .before .before .before .before .before .before .before .before .before .before .before .args .from) (c .before .before .before .before .before .before .before .before .before .before .before .before .before .before .before .before .before .args .to))) (c .before .agrees .result) (c .before .agrees .ensures)) (c .before .before .before .before .before .before .before .before .before .before .before .before .if1 .left) (c .before .before .before .before .before .before .before .before .before .before .if2 .left) (fields-blank _ ∙ sym (c .before .before .before .before .before .before .before .before .blank .ensures) ∙ not-false _ (c .before .before .before .before .before .before .before .if3 .left)) (not-false _ (c .before .before .before .before .before .if4 .left)) (not-true _ (c .if5 .taken))))
+returns-5 c = (tt, λ at st h. stop-shown (c .before .before .before .before .before .before .before .before .before .before .before .before .before .before .before .before .before .args .u .last) (c .before .before .before .before .before .before .before .before .before .before .before .before .before .before .before .before .before .args .block .now) at (c .before .before .before .before .before .before .before .before .before .before .before .before .before .before .before .before .before .args .scratch .now) 15 _ (end-differs (c .before .before .before .before .before .before .before .before .before .before .before .before .before .before .before .before .before .args .u) (c .before .before .before .before .before .before .before .before .before .before .before .before .before .before .before .before .before .args .block .now) at (c .before .before .before .before .before .before .before .before .before .before .before .before .before .before .before .before .before .args .p) (c .before .before .before .before .before .before .before .before .before .before .before .before .before .before .before .before .before .args .scratch .now) st (c .before .before .before .before .before .before .before .before .before .before .before .before .before .before .before .before .before .pre .1 .counted) h (fields (partOf (c .before .before .before .before .before .before .before .before .before .before .before .before .before .before .before .before .before .args .block .now) (c .before .before .before .before .before .before .before .before .before .before .before .before .before .before .before .before .before .args .from) (c .before .before .before .before .before .before .before .before .before .before .before .before .before .before .before .before .before .args .to))) (c .before .before .before .before .before .before .before .before .before .before .before .before .before .lacking .result) (c .before .before .before .before .before .before .before .before .before .before .before .before .before .lacking .ensures) (c .before .agrees .result) (totals-told (c .before .before .before .before .before .before .before .before .before .before .before .before .before .before .before .before .before .args .u) (c .before .before .before .before .before .before .before .before .before .before .before .before .before .before .before .before .before .args .block .now) at (c .before .before .before .before .before .before .before .before .before .before .before .before .before .before .before .before .before .args .p) (c .before .before .before .before .before .before .before .before .before .before .before .before .before .before .before .before .before .args .scratch .now) st (c .before .before .before .before .before .before .before .before .before .before .before .before .before .before .before .before .before .pre .1 .counted) h (fields (partOf (c .before .before .before .before .before .before .before .before .before .before .before .before .before .before .before .before .before .args .block .now) (c .before .before .before .before .before .before .before .before .before .before .before .before .before .before .before .before .before .args .from) (c .before .before .before .before .before .before .before .before .before .before .before .before .before .before .before .before .before .args .to))) (c .before .before .before .before .before .before .before .before .before .before .before .before .before .before .before .before .before .pre .0) (c .before .before .before .before .before .before .before .before .before .before .if2 .left) (c .before .before .before .before .before .before .before .before .before .before .before .before .before .before .before .before .before .pre .4 .high) (c .before .agrees .result) (c .before .agrees .ensures)) (c .before .before .before .before .before .before .before .before .before .before .before .before .if1 .left) (c .before .before .before .before .before .before .before .before .before .before .if2 .left) (fields-blank _ ∙ sym (c .before .before .before .before .before .before .before .before .blank .ensures) ∙ not-false _ (c .before .before .before .before .before .before .before .if3 .left)) (not-false _ (c .before .before .before .before .before .if4 .left)) (not-true _ (c .if5 .taken))))
 
 returns-6 : tie.Need-returns-6
-returns-6 c = (refl, λ at st h. go-shown (c .before .before .before .before .before .before .before .before .before .before .before .before .before .before .before .before .before .args .u .last) (c .before .before .before .before .before .before .before .before .before .before .before .before .before .before .before .before .before .args .block .now) at (c .before .before .before .before .before .before .before .before .before .before .before .before .before .before .before .before .before .args .p) (c .before .before .before .before .before .before .before .before .before .before .before .before .before .before .before .before .before .args .scratch .now) st _ (end-agrees (c .before .before .before .before .before .before .before .before .before .before .before .before .before .before .before .before .before .args .u) (c .before .before .before .before .before .before .before .before .before .before .before .before .before .before .before .before .before .args .block .now) at (c .before .before .before .before .before .before .before .before .before .before .before .before .before .before .before .before .before .args .p) (c .before .before .before .before .before .before .before .before .before .before .before .before .before .before .before .before .before .args .scratch .now) st (c .before .before .before .before .before .before .before .before .before .before .before .before .before .before .before .before .before .pre .1 .counted) h (fields (partOf (c .before .before .before .before .before .before .before .before .before .before .before .before .before .before .before .before .before .args .block .now) (c .before .before .before .before .before .before .before .before .before .before .before .before .before .before .before .before .before .args .from) (c .before .before .before .before .before .before .before .before .before .before .before .before .before .before .before .before .before .args .to))) (c .before .before .before .before .before .before .before .before .before .before .before .before .before .lacking .result) (c .before .before .before .before .before .before .before .before .before .before .before .before .before .lacking .ensures) (c .before .agrees .result) (totals-told (c .before .before .before .before .before .before .before .before .before .before .before .before .before .before .before .before .before .args .u) (c .before .before .before .before .before .before .before .before .before .before .before .before .before .before .before .before .before .args .block .now) at (c .before .before .before .before .before .before .before .before .before .before .before .before .before .before .before .before .before .args .p) (c .before .before .before .before .before .before .before .before .before .before .before .before .before .before .before .before .before .args .scratch .now) st (c .before .before .before .before .before .before .before .before .before .before .before .before .before .before .before .before .before .pre .1 .counted) h (fields (partOf (c .before .before .before .before .before .before .before .before .before .before .before .before .before .before .before .before .before .args .block .now) (c .before .before .before .before .before .before .before .before .before .before .before .before .before .before .before .before .before .args .from) (c .before .before .before .before .before .before .before .before .before .before .before .before .before .before .before .before .before .args .to))) (c .before .agrees .result) (c .before .agrees .ensures)) (c .before .before .before .before .before .before .before .before .before .before .before .before .if1 .left) (c .before .before .before .before .before .before .before .before .before .before .if2 .left) (fields-blank _ ∙ sym (c .before .before .before .before .before .before .before .before .blank .ensures) ∙ not-false _ (c .before .before .before .before .before .before .before .if3 .left)) (not-false _ (c .before .before .before .before .before .if4 .left)) (not-false _ (c .if5 .left))) h)
+returns-6 c = (refl, λ at st h. go-shown (c .before .before .before .before .before .before .before .before .before .before .before .before .before .before .before .before .before .args .u .last) (c .before .before .before .before .before .before .before .before .before .before .before .before .before .before .before .before .before .args .block .now) at (c .before .before .before .before .before .before .before .before .before .before .before .before .before .before .before .before .before .args .p) (c .before .before .before .before .before .before .before .before .before .before .before .before .before .before .before .before .before .args .scratch .now) st _ (end-agrees (c .before .before .before .before .before .before .before .before .before .before .before .before .before .before .before .before .before .args .u) (c .before .before .before .before .before .before .before .before .before .before .before .before .before .before .before .before .before .args .block .now) at (c .before .before .before .before .before .before .before .before .before .before .before .before .before .before .before .before .before .args .p) (c .before .before .before .before .before .before .before .before .before .before .before .before .before .before .before .before .before .args .scratch .now) st (c .before .before .before .before .before .before .before .before .before .before .before .before .before .before .before .before .before .pre .1 .counted) h (fields (partOf (c .before .before .before .before .before .before .before .before .before .before .before .before .before .before .before .before .before .args .block .now) (c .before .before .before .before .before .before .before .before .before .before .before .before .before .before .before .before .before .args .from) (c .before .before .before .before .before .before .before .before .before .before .before .before .before .before .before .before .before .args .to))) (c .before .before .before .before .before .before .before .before .before .before .before .before .before .lacking .result) (c .before .before .before .before .before .before .before .before .before .before .before .before .before .lacking .ensures) (c .before .agrees .result) (totals-told (c .before .before .before .before .before .before .before .before .before .before .before .before .before .before .before .before .before .args .u) (c .before .before .before .before .before .before .before .before .before .before .before .before .before .before .before .before .before .args .block .now) at (c .before .before .before .before .before .before .before .before .before .before .before .before .before .before .before .before .before .args .p) (c .before .before .before .before .before .before .before .before .before .before .before .before .before .before .before .before .before .args .scratch .now) st (c .before .before .before .before .before .before .before .before .before .before .before .before .before .before .before .before .before .pre .1 .counted) h (fields (partOf (c .before .before .before .before .before .before .before .before .before .before .before .before .before .before .before .before .before .args .block .now) (c .before .before .before .before .before .before .before .before .before .before .before .before .before .before .before .before .before .args .from) (c .before .before .before .before .before .before .before .before .before .before .before .before .before .before .before .before .before .args .to))) (c .before .before .before .before .before .before .before .before .before .before .before .before .before .before .before .before .before .pre .0) (c .before .before .before .before .before .before .before .before .before .before .if2 .left) (c .before .before .before .before .before .before .before .before .before .before .before .before .before .before .before .before .before .pre .4 .high) (c .before .agrees .result) (c .before .agrees .ensures)) (c .before .before .before .before .before .before .before .before .before .before .before .before .if1 .left) (c .before .before .before .before .before .before .before .before .before .before .if2 .left) (fields-blank _ ∙ sym (c .before .before .before .before .before .before .before .before .blank .ensures) ∙ not-false _ (c .before .before .before .before .before .before .before .if3 .left)) (not-false _ (c .before .before .before .before .before .if4 .left)) (not-false _ (c .if5 .left))) h)
 
 pub end-turn-spec : {M : Type 1} → statement M
 end-turn-spec =

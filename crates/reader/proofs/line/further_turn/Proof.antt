@@ -1,6 +1,5 @@
 -- `reader::line::further_turn` meets its contract. Assumes nothing.
-use Rattle.reader.proofs.StepTurnLaws.{list-code}
-use Rattle.reader.proofs.StepTurnLaws.{further-skipped, further-title, further-origin, further-owner, further-version, further-formula, further-id, further-over, further-list}
+use Rattle.reader.proofs.StepTurnLaws.{list-code, further-skipped, further-title, further-origin, further-owner, further-version, further-formula, further-id, further-over, further-list}
 use borrow.Author.Needs.{needs}
 use Rattle.reader.proofs.line.further_turn.Statement.{statement}
 use Rattle.reader.proofs.line.further_turn.Tie as tie
@@ -78,7 +77,7 @@ part-list-turn-end : tie.Need-part-list-turn-end
 part-list-turn-end c = search needs
 
 list-turn-requires : tie.Need-list-turn-requires
-list-turn-requires c κs = (c .before .before .before .before .before .before .before .pre .0, c .before .before .before .before .before .before .before .pre .1 .counted, (list-code _ (c .before .before .before .before .before .before .before .pre .1 .code) (c .before .before .match .rest .0 .0 .0 .0 .0 .0 .0 .1) (c .before .before .match .rest .0 .0 .0 .0 .0 .0 .1) (c .before .before .match .rest .0 .0 .0 .0 .0 .1) (c .before .before .match .rest .0 .0 .0 .0 .1) (c .before .before .match .rest .0 .0 .0 .1) (c .before .before .match .rest .0 .0 .1) (c .before .before .match .rest .0 .1) (c .before .before .match .rest .1) .0), (list-code _ (c .before .before .before .before .before .before .before .pre .1 .code) (c .before .before .match .rest .0 .0 .0 .0 .0 .0 .0 .1) (c .before .before .match .rest .0 .0 .0 .0 .0 .0 .1) (c .before .before .match .rest .0 .0 .0 .0 .0 .1) (c .before .before .match .rest .0 .0 .0 .0 .1) (c .before .before .match .rest .0 .0 .0 .1) (c .before .before .match .rest .0 .0 .1) (c .before .before .match .rest .0 .1) (c .before .before .match .rest .1) .1), c .before .before .before .before .before .before .before .pre .5 .low)
+list-turn-requires c κs = search needs
 
 returns : tie.Need-returns
 returns c = further-skipped (c .before .before .before .before .before .args .block .now) (c .before .before .before .before .before .args .at) (c .before .before .before .before .before .args .end) (c .before .before .before .before .before .args .u) (c .before .before .before .before .before .args .p) (c .before .before .before .before .before .args .scratch .now) (c .before .before .before .before .before .pre .0) (c .before .before .before .before .before .pre .1) (c .before .before .before .before .before .pre .2) (c .before .before .before .before .before .pre .3) (c .before .before .before .before .before .pre .4) (c .match .keys1)
@@ -108,7 +107,7 @@ same-length : tie.Need-same-length
 same-length c = search needs
 
 returns-9 : tie.Need-returns-9
-returns-9 c = further-list (c .before .before .before .before .before .before .before .before .before .before .args .block .now) (c .before .before .before .before .before .before .before .before .before .before .args .at) (c .before .before .before .before .before .before .before .before .before .before .args .end) (c .before .before .before .before .before .before .before .before .before .before .args .u) (c .before .before .before .before .before .before .before .before .before .before .args .p) (c .before .before .before .before .before .before .before .before .before .before .args .scratch .now) (c .before .before .before .before .before .before .before .before .before .before .pre .0) (c .before .before .before .before .before .before .before .before .before .before .pre .1) (c .before .before .before .before .before .before .before .before .before .before .pre .2) (c .before .before .before .before .before .before .before .before .before .before .pre .3) (c .before .before .before .before .before .before .before .before .before .before .pre .4) (c .before .before .before .before .before .before .uncommented .result) (c .before .before .before .before .before .before .uncommented .ensures) (c .before .before .list-turn .result) (c .before .before .list-turn .last .1 .1 .1 .1 .0) (list-code _ (c .before .before .before .before .before .before .before .before .before .before .pre .1 .code) (c .before .before .before .before .before .match .rest .0 .0 .0 .0 .0 .0 .0 .1) (c .before .before .before .before .before .match .rest .0 .0 .0 .0 .0 .0 .1) (c .before .before .before .before .before .match .rest .0 .0 .0 .0 .0 .1) (c .before .before .before .before .before .match .rest .0 .0 .0 .0 .1) (c .before .before .before .before .before .match .rest .0 .0 .0 .1) (c .before .before .before .before .before .match .rest .0 .0 .1) (c .before .before .before .before .before .match .rest .0 .1) (c .before .before .before .before .before .match .rest .1) .0) (list-code _ (c .before .before .before .before .before .before .before .before .before .before .pre .1 .code) (c .before .before .before .before .before .match .rest .0 .0 .0 .0 .0 .0 .0 .1) (c .before .before .before .before .before .match .rest .0 .0 .0 .0 .0 .0 .1) (c .before .before .before .before .before .match .rest .0 .0 .0 .0 .0 .1) (c .before .before .before .before .before .match .rest .0 .0 .0 .0 .1) (c .before .before .before .before .before .match .rest .0 .0 .0 .1) (c .before .before .before .before .before .match .rest .0 .0 .1) (c .before .before .before .before .before .match .rest .0 .1) (c .before .before .before .before .before .match .rest .1) .1) (c .before .before .list-turn .ensures)
+returns-9 c = let w = c .before .before in let u = w .before .before .before .before in let s = u .before .before .before .before in let m = w .before .before .before .match .rest in further-list (s .args .block .now) (s .args .at) (s .args .end) (s .args .u) (s .args .p) (s .args .scratch .now) (s .pre .0) (s .pre .1) (s .pre .2) (s .pre .3) (s .pre .4) (u .uncommented .result) (u .uncommented .ensures) (w .list-turn .result) (w .list-turn .last .1 .1 .1 .1 .0) (list-code _ (s .pre .1 .code) (m .0 .0 .0 .0 .0 .0 .0 .1) (m .0 .0 .0 .0 .0 .0 .1) (m .0 .0 .0 .0 .0 .1) (m .0 .0 .0 .0 .1) (m .0 .0 .0 .1) (m .0 .0 .1) (m .0 .1) (m .1)) (s .pre .5 .low) (w .list-turn .ensures)
 
 pub further-turn-spec : {M : Type 1} → statement M
 further-turn-spec =

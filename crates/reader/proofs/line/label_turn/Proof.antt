@@ -1,6 +1,6 @@
 -- `reader::line::label_turn` meets its contract. Assumes nothing.
 use native.Mathlib.Omega.{arith}
-use Rattle.reader.proofs.TurnLaws.{put-long}
+use Rattle.gather.proofs.TurnLaws.{put-long}
 use Rattle.reader.proofs.LabelTurnLaws.{label-bounded, label-misplaced, label-over, label-value}
 use borrow.Author.Needs.{needs}
 use Rattle.reader.proofs.line.label_turn.Statement.{statement}

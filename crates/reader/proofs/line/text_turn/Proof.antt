@@ -1,6 +1,6 @@
 -- `reader::line::text_turn` meets its contract. Assumes nothing.
 use mathlib.Core.Path.{sym, ap}
-use Rattle.reader.specs.declared.progress.Turn.the-variants.{Go}
+use Rattle.gather.specs.declared.progress.Turn.the-variants.{Go}
 use Rattle.reader.proofs.LineTurnLaws.{text-title, text-origin, text-owner}
 use Rattle.reader.proofs.line.text_turn.Statement.{statement}
 use Rattle.reader.proofs.line.text_turn.Tie as tie

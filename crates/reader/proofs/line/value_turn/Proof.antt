@@ -1,6 +1,5 @@
 -- `reader::line::value_turn` meets its contract. Assumes nothing.
-use Rattle.reader.proofs.StepTurnLaws.{list-code}
-use Rattle.reader.proofs.StepTurnLaws.{value-skipped, value-title, value-origin, value-owner, value-version, value-formula, value-id, value-end, value-list}
+use Rattle.reader.proofs.StepTurnLaws.{list-code, value-skipped, value-title, value-origin, value-owner, value-version, value-formula, value-id, value-end, value-list}
 use borrow.Author.Needs.{needs}
 use Rattle.reader.proofs.line.value_turn.Statement.{statement}
 use Rattle.reader.proofs.line.value_turn.Tie as tie
@@ -69,7 +68,7 @@ part-list-turn-end : tie.Need-part-list-turn-end
 part-list-turn-end c = search needs
 
 list-turn-requires : tie.Need-list-turn-requires
-list-turn-requires c κs = (c .before .before .before .before .before .before .before .pre .0, c .before .before .before .before .before .before .before .pre .1 .counted, (list-code _ (c .before .before .before .before .before .before .before .pre .1 .code) (c .before .before .match .rest .0 .0 .0 .0 .0 .0 .0 .1) (c .before .before .match .rest .0 .0 .0 .0 .0 .0 .1) (c .before .before .match .rest .0 .0 .0 .0 .0 .1) (c .before .before .match .rest .0 .0 .0 .0 .1) (c .before .before .match .rest .0 .0 .0 .1) (c .before .before .match .rest .0 .0 .1) (c .before .before .match .rest .0 .1) (c .before .before .match .rest .1) .0), (list-code _ (c .before .before .before .before .before .before .before .pre .1 .code) (c .before .before .match .rest .0 .0 .0 .0 .0 .0 .0 .1) (c .before .before .match .rest .0 .0 .0 .0 .0 .0 .1) (c .before .before .match .rest .0 .0 .0 .0 .0 .1) (c .before .before .match .rest .0 .0 .0 .0 .1) (c .before .before .match .rest .0 .0 .0 .1) (c .before .before .match .rest .0 .0 .1) (c .before .before .match .rest .0 .1) (c .before .before .match .rest .1) .1), c .before .before .before .before .before .before .before .pre .4 .low)
+list-turn-requires c κs = search needs
 
 returns : tie.Need-returns
 returns c = value-skipped (c .before .before .before .before .before .args .block .now) (c .before .before .before .before .before .args .from) (c .before .before .before .before .before .args .end) (c .before .before .before .before .before .args .u) (c .before .before .before .before .before .args .p) (c .before .before .before .before .before .args .scratch .now) (c .before .before .before .before .before .pre .0) (c .before .before .before .before .before .pre .1) (c .before .before .before .before .before .pre .2) (c .before .before .before .before .before .pre .3) (c .match .keys1)
@@ -102,7 +101,7 @@ same-length-2 : tie.Need-same-length-2
 same-length-2 c = search needs
 
 returns-9 : tie.Need-returns-9
-returns-9 c = value-list (c .before .before .before .before .before .before .before .before .before .before .args .block .now) (c .before .before .before .before .before .before .before .before .before .before .args .from) (c .before .before .before .before .before .before .before .before .before .before .args .end) (c .before .before .before .before .before .before .before .before .before .before .args .u) (c .before .before .before .before .before .before .before .before .before .before .args .p) (c .before .before .before .before .before .before .before .before .before .before .args .scratch .now) (c .before .before .before .before .before .before .before .before .before .before .pre .0) (c .before .before .before .before .before .before .before .before .before .before .pre .1) (c .before .before .before .before .before .before .before .before .before .before .pre .2) (c .before .before .before .before .before .before .before .before .before .before .pre .3) (c .before .before .before .before .before .before .uncommented .result) (c .before .before .before .before .before .before .uncommented .ensures) (c .before .before .list-turn .result) (c .before .before .list-turn .last .1 .1 .1 .1 .0) (list-code _ (c .before .before .before .before .before .before .before .before .before .before .pre .1 .code) (c .before .before .before .before .before .match .rest .0 .0 .0 .0 .0 .0 .0 .1) (c .before .before .before .before .before .match .rest .0 .0 .0 .0 .0 .0 .1) (c .before .before .before .before .before .match .rest .0 .0 .0 .0 .0 .1) (c .before .before .before .before .before .match .rest .0 .0 .0 .0 .1) (c .before .before .before .before .before .match .rest .0 .0 .0 .1) (c .before .before .before .before .before .match .rest .0 .0 .1) (c .before .before .before .before .before .match .rest .0 .1) (c .before .before .before .before .before .match .rest .1) .0) (list-code _ (c .before .before .before .before .before .before .before .before .before .before .pre .1 .code) (c .before .before .before .before .before .match .rest .0 .0 .0 .0 .0 .0 .0 .1) (c .before .before .before .before .before .match .rest .0 .0 .0 .0 .0 .0 .1) (c .before .before .before .before .before .match .rest .0 .0 .0 .0 .0 .1) (c .before .before .before .before .before .match .rest .0 .0 .0 .0 .1) (c .before .before .before .before .before .match .rest .0 .0 .0 .1) (c .before .before .before .before .before .match .rest .0 .0 .1) (c .before .before .before .before .before .match .rest .0 .1) (c .before .before .before .before .before .match .rest .1) .1) (c .before .before .list-turn .ensures)
+returns-9 c = let w = c .before .before in let u = w .before .before .before .before in let s = u .before .before .before .before in let m = w .before .before .before .match .rest in value-list (s .args .block .now) (s .args .from) (s .args .end) (s .args .u) (s .args .p) (s .args .scratch .now) (s .pre .0) (s .pre .1) (s .pre .2) (s .pre .3) (u .uncommented .result) (u .uncommented .ensures) (w .list-turn .result) (w .list-turn .last .1 .1 .1 .1 .0) (list-code _ (s .pre .1 .code) (m .0 .0 .0 .0 .0 .0 .0 .1) (m .0 .0 .0 .0 .0 .0 .1) (m .0 .0 .0 .0 .0 .1) (m .0 .0 .0 .0 .1) (m .0 .0 .0 .1) (m .0 .0 .1) (m .0 .1) (m .1)) (s .pre .4 .low) (w .list-turn .ensures)
 
 pub value-turn-spec : {M : Type 1} → statement M
 value-turn-spec =

@@ -1,0 +1,60 @@
+// Lines of ATOMLIST: document 01, "Rows". "Numbers run 1, 2, 3 and on.", so that an atom joins behind those that are there.
+ghost use mathlib.Core.Path.{_≡_};
+ghost use mathlib.Core.List.{List, [], _∷_};
+ghost use Prim.Native.Nat.{_*_, _≤_, _<_};
+ghost use lib.ListN.{length};
+ghost use lib.Seq.{sets};
+ghost use Rattle.format.specs.Bytes.{fields};
+ghost use Rattle.format.specs.Structure.{Atom};
+ghost use Rattle.sorted.specs.Steps.{atomStep};
+ghost use Rattle.sorted.specs.Regions.{kindsRegion};
+ghost use Rattle.sorted.specs.Shown.{ShowsAfter};
+ghost use Rattle.sorted.specs.Keyed.{KeptWithin};
+use rows::atom::AtomRow;
+use sorted::after::RowAfter;
+
+// One atom more behind those that are there: its element, its mass and its implied hydrogens.
+fn put_atom(region: &mut [u32], atoms: usize, element: u32, mass: u32, hydrogens: u32)
+    requires { ⌜ (length (now region) ≡ 768) × (atoms < 256) ⌝ }
+    ensures { λ _. ⌜ (length (now (region .exit)) ≡ 768) × (now (region .exit) ≡ sets (now (region .entry)) (3 * atoms) (element ∷ mass ∷ hydrogens ∷ [])) ⌝ }
+{
+    let at = 3 * atoms;
+    region[at] = element;
+    region[at + 1] = mass;
+    region[at + 2] = hydrogens;
+}
+
+// What a line of ATOMLIST leaves of the atoms, so many there and the elements known up to `last`: "number, symbol, optional hydrogens 0 to 15 (absent means 0)".
+// The line is without its comment.
+pub fn atom_line(line: &[u8], last: u32, atoms: usize, region: &mut [u32]) -> RowAfter
+    requires { ⌜ (length (now region) ≡ 768) × (atoms ≤ 256) ⌝ }
+    ensures { λ r. ⌜ (length (now (region .exit)) ≡ 768) × KeptWithin 256 r × ((listed : List Atom) → length listed ≡ atoms → now (region .entry) ≡ kindsRegion listed → ShowsAfter kindsRegion (now (region .exit)) r (atomStep last listed (fields (now (line .entry))))) ⌝ }
+{
+    if sorted::keyed::is_bare(line) {
+        return RowAfter::Kept(atoms);
+    }
+    let AtomRow::Values(number, mark, hydrogens) = rows::atom::atom_row(line) else {
+        return RowAfter::Stop(9);
+    };
+    if !rows::elements::mass_fits(mark) {
+        return RowAfter::Stop(10);
+    }
+    if 15 < hydrogens {
+        return RowAfter::Stop(10);
+    }
+    let place = number as usize;
+    let next = atoms + 1;
+    let isotope = rows::elements::isotope_of(mark, last);
+    let element = isotope.element;
+    if place != next {
+        return RowAfter::Stop(11);
+    }
+    if element == 0 {
+        return RowAfter::Stop(12);
+    }
+    if 256 <= atoms {
+        return RowAfter::Stop(14);
+    }
+    put_atom(region, atoms, element, isotope.mass, hydrogens);
+    RowAfter::Kept(next)
+}

@@ -1,0 +1,41 @@
+// One line of a list among the rows that are there: document 01, "Rows". The scratch lent has a region for each list, sorted or as the rows came.
+mod atoms; // atoms.rt: lines of ATOMLIST
+pub mod progress; // progress.rt: what is known before a line
+mod spread; // spread.rt: CHARGE and RADICAL
+mod turns; // turns.rt: each list's line in the whole scratch
+
+ghost use mathlib.Core.Path.{_≡_};
+ghost use Prim.Native.Nat.{ℕ, _≤_};
+ghost use lib.ListN.{length};
+ghost use Rattle.format.specs.Bytes.{Bytes, fields};
+ghost use Rattle.format.specs.Reading.{State};
+ghost use Rattle.gather.specs.Progress.{Counted, CountedTurn};
+ghost use Rattle.gather.specs.Shows.{Shows, ShowsTurn};
+ghost use Rattle.gather.specs.ListLine.{listLine};
+use crate::progress::Progress;
+use crate::progress::Turn;
+use crate::turns::atoms_turn;
+use crate::turns::bonds_turn;
+use crate::turns::centres_turn;
+use crate::turns::charges_turn;
+use crate::turns::pairs_turn;
+use crate::turns::radicals_turn;
+
+// A line of the list whose label has the code: 6 ATOMLIST, 7 BONDLIST, 8 CHARGE, 9 RADICAL, 10 STEREOCENTER, 11 STEREOPAIR. The line is without its comment.
+// What no reading lends, another length or counts over their limits, is answered before anything is touched.
+pub fn list_turn(line: &[u8], code: u32, last: u32, p: Progress, scratch: &mut [u32]) -> Turn
+    ensures { λ r. ⌜ (length (now (scratch .exit)) ≡ length (now (scratch .entry))) × (length (now (scratch .entry)) ≡ 2960 → Counted p → 1 ≤ last → 6 ≤ code → code ≤ 11 → CountedTurn p r × ((block : Bytes) (at : ℕ) (st : State) → Shows last block at p (now (scratch .entry)) st →
+        ShowsTurn last block at r (now (scratch .exit)) (listLine code last st (fields (now (line .entry)))))) ⌝ }
+{
+    if scratch.len() != 2960 {
+        return Turn::Stop(0);
+    }
+    match code {
+        6 => atoms_turn(line, last, p, scratch),
+        7 => bonds_turn(line, p, scratch),
+        8 => charges_turn(line, p, scratch),
+        9 => radicals_turn(line, p, scratch),
+        10 => centres_turn(line, p, scratch),
+        _ => pairs_turn(line, p, scratch),
+    }
+}

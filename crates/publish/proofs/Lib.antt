@@ -1,0 +1,13 @@
+-- The laws of the table that is filled, file by file. Assumes nothing.
+pub mod FillLaws
+pub mod GuardLaws
+pub mod AtomLaws
+pub mod HeaderLaws
+pub mod RecordLaws
+pub mod AppearLaws
+pub mod NumberingLaws
+pub mod RenumberLaws
+pub mod OrderingLaws
+pub mod SortedValueLaws
+pub mod AtomPartLaws
+pub mod PublishLaws

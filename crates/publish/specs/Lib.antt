@@ -1,0 +1,3 @@
+-- How the table shows what scratch and progress hold, file by file. Assumes nothing.
+pub mod Numbering
+pub mod Published

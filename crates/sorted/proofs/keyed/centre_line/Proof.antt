@@ -1,0 +1,70 @@
+-- `sorted::keyed::centre_line` meets its contract. Assumes nothing.
+use mathlib.Core.Path.{refl, sym, _∙_}
+use Rattle.sorted.proofs.JoinLaws.{kept-within, stop-within}
+use Rattle.sorted.proofs.KeyedLaws.{shows-blank}
+use Rattle.sorted.proofs.KeyedLines.{centre-small, centre-wrong, centre-shows}
+use native.Mathlib.Omega.{arith}
+use borrow.Author.Needs.{needs}
+use Rattle.sorted.proofs.keyed.centre_line.Statement.{statement}
+use Rattle.sorted.proofs.keyed.centre_line.Tie as tie
+
+returns : tie.Need-returns
+returns c = (refl, λ long. absurd (c .if1 .taken long))
+
+returns-2 : tie.Need-returns-2
+returns-2 c = (refl, λ long few. absurd (omega (arith, few)))
+
+returns-3 : tie.Need-returns-3
+returns-3 c = (refl, λ long few atoms. absurd (omega (arith, atoms)))
+
+is-bare-requires : tie.Need-is-bare-requires
+is-bare-requires c κs = search needs
+
+returns-4 : tie.Need-returns-4
+returns-4 c = (refl, λ long few atoms. (kept-within _ _ few, shows-blank _ _ _ _ _ (sym (c .before .is-bare .ensures) ∙ c .if4 .taken)))
+
+centre-row-requires : tie.Need-centre-row-requires
+centre-row-requires c κs = search needs
+
+enum-known-atom : tie.Need-enum-known-atom
+enum-known-atom c = search needs
+
+enum-told : tie.Need-enum-told
+enum-told c = search needs
+
+returns-5 : tie.Need-returns-5
+returns-5 c = (refl, λ long few atoms. (stop-within _ _, centre-wrong _ _ _ _ _ (sym (c .before .before .before .before .is-bare .ensures) ∙ c .before .before .before .if4 .left) _ (c .before .before .centre-row .ensures) (c .enum-told .given .1)))
+
+mul-one-atom : tie.Need-mul-one-atom
+mul-one-atom c = let q = centre-small _ _ (c .before .before .before .before .centre-row .ensures) _ _ _ (c .before .before .atom .given .1) in record { fits = omega (arith, q .0) }
+
+add-one-atom : tie.Need-add-one-atom
+add-one-atom c = let q = centre-small _ _ (c .before .before .before .before .centre-row .ensures) _ _ _ (c .before .before .atom .given .1) in record { fits = omega (arith, q .0, q .1) }
+
+one-atom-requires : tie.Need-one-atom-requires
+one-atom-requires c κs = search needs
+
+same-length : tie.Need-same-length
+same-length c = search needs
+
+returns-6 : tie.Need-returns-6
+returns-6 c = (c .before .before .one-atom .ensures .0, λ long few atoms. (c .before .before .one-atom .ensures .1, centre-shows _ _ _ _ _ (sym (c .before .before .before .before .before .before .before .before .before .is-bare .ensures) ∙ c .before .before .before .before .before .before .before .before .if4 .left) _ (c .before .before .before .before .before .before .before .centre-row .ensures) _ _ _ (c .before .before .before .before .before .atom .given .1) _ (c .before .before .one-atom .ensures .2)))
+
+pub centre-line-spec : {M : Type 1} → statement M
+centre-line-spec =
+    tie.close
+    (tie.spec
+    returns
+    returns-2
+    returns-3
+    is-bare-requires
+    returns-4
+    centre-row-requires
+    enum-known-atom
+    enum-told
+    returns-5
+    mul-one-atom
+    add-one-atom
+    one-atom-requires
+    same-length
+    returns-6)

@@ -1,0 +1,156 @@
+// Lines of BONDLIST, STEREOCENTER and STEREOPAIR: document 01, "Rows". "A row is answered as its values or a refusal with its reason, and the caller of a row goes
+// on only with the values in hand." A letter's value is always in its list's range, so that none of these rows is refused 10. What
+// no reading lends, another length or a count over its limit, is answered 0, and nothing is touched.
+ghost use mathlib.Core.Path.{_≡_};
+ghost use mathlib.Core.Bool.{false};
+ghost use mathlib.Core.List.{[], _∷_};
+ghost use Prim.Native.Nat.{_*_, _≤_};
+ghost use lib.ListN.{length};
+ghost use Rattle.lists.specs.Lists.{isNil};
+ghost use Rattle.format.specs.Bytes.{within, fields};
+ghost use Rattle.format.specs.Labels.{Bonds, Centres, Pairs};
+ghost use Rattle.sorted.specs.Keyed.{KeptWithin, RowShows, LineShows};
+use crate::after::RowAfter;
+use rows::bond::BondRow;
+use rows::centre::CentreRow;
+use rows::pair::PairRow;
+
+// Whether the line has no field: "lines then blank are skipped".
+pub fn is_bare(line: &[u8]) -> bool
+    ensures { λ r. ⌜ r ≡ isNil (fields (now (line .entry))) ⌝ }
+{
+    let first = scan::fields::next_field(line, 0);
+    first.from == first.to
+}
+
+// Whether the atom is one of the atoms listed.
+fn is_listed(atom: u32, atoms: usize) -> bool
+    ensures { λ r. ⌜ r ≡ within 1 atoms atom ⌝ }
+{
+    if atom < 1 {
+        return false;
+    }
+    atom as usize <= atoms
+}
+
+// A row of one atom joins its list, or its refusal: 11 where the atom is not listed.
+fn one_atom(
+    atoms: usize,
+    count: usize,
+    region: &mut [u32],
+    most: usize,
+    atom: u32,
+    payload: u32,
+) -> RowAfter
+    requires { ⌜ (length (now region) ≡ 2 * most) × (count ≤ most) × (most ≤ 512) × (atoms ≤ 256) ⌝ }
+    ensures { λ r. ⌜ (length (now (region .exit)) ≡ length (now (region .entry))) × KeptWithin most r × RowShows most (atom ∷ []) payload false atoms count (now (region .entry)) (now (region .exit)) r ⌝ }
+{
+    if !is_listed(atom, atoms) {
+        return RowAfter::Stop(11);
+    }
+    crate::join::join(region, count, most, 1024 * atom, payload, false)
+}
+
+// A row of two atoms joins its list with the lower atom first, or its refusal: 11 where an atom is not listed, 13 for "an atom with itself".
+fn two_atoms(
+    atoms: usize,
+    count: usize,
+    region: &mut [u32],
+    most: usize,
+    first: u32,
+    second: u32,
+    payload: u32,
+    drops: bool,
+) -> RowAfter
+    requires { ⌜ (length (now region) ≡ 2 * most) × (count ≤ most) × (most ≤ 512) × (atoms ≤ 256) ⌝ }
+    ensures { λ r. ⌜ (length (now (region .exit)) ≡ length (now (region .entry))) × KeptWithin most r × RowShows most (first ∷ second ∷ []) payload drops atoms count (now (region .entry)) (now (region .exit)) r ⌝ }
+{
+    if !is_listed(first, atoms) {
+        return RowAfter::Stop(11);
+    }
+    if !is_listed(second, atoms) {
+        return RowAfter::Stop(11);
+    }
+    if first == second {
+        return RowAfter::Stop(13);
+    }
+    if first < second {
+        return crate::join::join(region, count, most, 1024 * first + second, payload, drops);
+    }
+    crate::join::join(region, count, most, 1024 * second + first, payload, drops)
+}
+
+// What a line of BONDLIST leaves of its list, `count` bonds there and `atoms` atoms listed: "two atoms and S, D, T, Q or A". The line is without its comment.
+pub fn bond_line(line: &[u8], atoms: usize, count: usize, region: &mut [u32]) -> RowAfter
+    ensures { λ r. ⌜ (length (now (region .exit)) ≡ length (now (region .entry))) × (length (now (region .entry)) ≡ 1024 → count ≤ 512 → atoms ≤ 256 → KeptWithin 512 r × LineShows Bonds atoms count (now (line .entry)) (now (region .entry)) (now (region .exit)) r) ⌝ }
+{
+    if region.len() != 1024 {
+        return RowAfter::Stop(0);
+    }
+    if 512 < count {
+        return RowAfter::Stop(0);
+    }
+    if 256 < atoms {
+        return RowAfter::Stop(0);
+    }
+    if is_bare(line) {
+        return RowAfter::Kept(count);
+    }
+    let BondRow::Values(first, second, kind) = rows::bond::bond_row(line) else {
+        return RowAfter::Stop(9);
+    };
+    two_atoms(atoms, count, region, 512, first, second, 256 * kind, true)
+}
+
+// What a line of STEREOCENTER leaves of its list: "atom, P or M, optional group `0`, A to Z or a to z".
+pub fn centre_line(line: &[u8], atoms: usize, count: usize, region: &mut [u32]) -> RowAfter
+    ensures { λ r. ⌜ (length (now (region .exit)) ≡ length (now (region .entry))) × (length (now (region .entry)) ≡ 256 → count ≤ 128 → atoms ≤ 256 → KeptWithin 128 r × LineShows Centres atoms count (now (line .entry)) (now (region .entry)) (now (region .exit)) r) ⌝ }
+{
+    if region.len() != 256 {
+        return RowAfter::Stop(0);
+    }
+    if 128 < count {
+        return RowAfter::Stop(0);
+    }
+    if 256 < atoms {
+        return RowAfter::Stop(0);
+    }
+    if is_bare(line) {
+        return RowAfter::Kept(count);
+    }
+    let CentreRow::Values(atom, side, group) = rows::centre::centre_row(line) else {
+        return RowAfter::Stop(9);
+    };
+    one_atom(atoms, count, region, 128, atom, 256 * side + group)
+}
+
+// What a line of STEREOPAIR leaves of its list: "two atoms, P, M or 0, optional group".
+pub fn pair_line(line: &[u8], atoms: usize, count: usize, region: &mut [u32]) -> RowAfter
+    ensures { λ r. ⌜ (length (now (region .exit)) ≡ length (now (region .entry))) × (length (now (region .entry)) ≡ 256 → count ≤ 128 → atoms ≤ 256 → KeptWithin 128 r × LineShows Pairs atoms count (now (line .entry)) (now (region .entry)) (now (region .exit)) r) ⌝ }
+{
+    if region.len() != 256 {
+        return RowAfter::Stop(0);
+    }
+    if 128 < count {
+        return RowAfter::Stop(0);
+    }
+    if 256 < atoms {
+        return RowAfter::Stop(0);
+    }
+    if is_bare(line) {
+        return RowAfter::Kept(count);
+    }
+    let PairRow::Values(first, second, side, group) = rows::pair::pair_row(line) else {
+        return RowAfter::Stop(9);
+    };
+    two_atoms(
+        atoms,
+        count,
+        region,
+        128,
+        first,
+        second,
+        256 * side + group,
+        false,
+    )
+}
