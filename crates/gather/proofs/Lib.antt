@@ -9,3 +9,4 @@ pub mod AtomLineLaws
 pub mod LaidLaws
 pub mod TurnLaws
 pub mod ListLineLaws
+pub mod RunLaws

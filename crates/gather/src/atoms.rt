@@ -14,7 +14,7 @@ use rows::atom::AtomRow;
 use sorted::after::RowAfter;
 
 // One atom more behind those that are there: its element, its mass and its implied hydrogens.
-fn put_atom(region: &mut [u32], atoms: usize, element: u32, mass: u32, hydrogens: u32)
+pub fn put_atom(region: &mut [u32], atoms: usize, element: u32, mass: u32, hydrogens: u32)
     requires { ⌜ (length (now region) ≡ 768) × (atoms < 256) ⌝ }
     ensures { λ _. ⌜ (length (now (region .exit)) ≡ 768) × (now (region .exit) ≡ sets (now (region .entry)) (3 * atoms) (element ∷ mass ∷ hydrogens ∷ [])) ⌝ }
 {

@@ -24,15 +24,18 @@ use Rattle.scan.specs.Cuts.{LineEnd}
 use Rattle.scan.specs.ShownLines.{byCode}
 use Rattle.sorted.specs.Regions.{kindsRegion, memberOf, membersFrom, arrived, voidOf, spreadRegion, keyedRegion, seenFrom, topOf}
 use Rattle.sorted.proofs.FitLaws.{fits-nil}
-use Rattle.gather.specs.Progress.{partOf, laid, Within, Bounded, BoundedTurn, Flowing, FlowingTurn, Listed, entryFine}
+use Rattle.gather.specs.Progress.{partOf, laid, Within, recounted, Bounded, BoundedTurn, Flowing, FlowingTurn, Listed, entryFine}
 use Rattle.gather.specs.Shows.{Shows, ShowsTurn}
+use Rattle.gather.specs.Runs.{Reached, RowsRan}
+use Rattle.gather.proofs.RunLaws.{past-shown}
+use Rattle.gather.specs.declared.Ran.{Ran}
 use Rattle.gather.specs.declared.progress.Progress.{Progress}
 use Rattle.gather.specs.declared.progress.Turn.{Turn}
 use Rattle.gather.specs.declared.progress.Turn.the-variants.{Go, Stop}
 use Rattle.reader.specs.Lines.{rulesOf, begun}
 use Rattle.reader.specs.Judging.{Stands, unreadYet}
 use Rattle.reader.specs.declared.rules.Rules.{Rules as Given}
-use Rattle.reader.proofs.StepTurnLaws.{part-length}
+use Rattle.reader.proofs.StepTurnLaws.{counted-bounded}
 use Rattle.reader.proofs.LabelTurnLaws.{over-code, nil-top}
 
 -- BEFORE THE FIRST LINE
@@ -147,22 +150,6 @@ bounded-go size r q e b = rw e at b
 pub flowing-go : (at : ℕ) (r : Turn) (q : Progress) → r ≡ Go q → FlowingTurn at r → Flowing at q
 flowing-go at r q e f = rw e at f
 
-past-shown : (k : ℕ) (block : Bytes) (at end : ℕ) (p : Progress) (t : List ℕ) (st : State) → at ≤ end → end ≤ length block → Shows k block at p t st → Shows k block end p t (past (partOf block at end) st)
-unfolding laid
-past-shown k block at end p t st h l s = record {
-  place = omega (arith, s .place, part-length block at end h l);
-  running = s .running;
-  top = s .top;
-  holding = record {
-    scratch = s .holding .scratch;
-    texts = s .holding .texts;
-    formula = s .holding .formula;
-    formula-fine = s .holding .formula-fine;
-    kinds = s .holding .kinds;
-    listed = s .holding .listed;
-  };
-}
-
 module _ (u : Given) (block : Bytes) (at end : ℕ) (p : Progress) (t s : List ℕ) (g : Going u block at p t) (more : at < length block) (e : LineEnd block at end) (r : Turn)
     (sim : (st : State) → Shows (u .last) block at p t st → begun st ≡ true → ShowsTurn (u .last) block at r s (lineStep (rulesOf u) st (partOf block at end))) where
   high : end ≤ length block
@@ -195,6 +182,30 @@ module _ (u : Given) (block : Bytes) (at end : ℕ) (p : Progress) (t s : List �
       by (going st) f w = absurd w
       by (stopping m) f w =
           on-line ∙ read-stop (rulesOf u) (g .state) m (partOf block at end) (cut (drop end block)) f ∙ ap (λ (k : ℕ). Refused k (g .state .at)) (sym w) ∙ ap (Refused n) (g .shows .place)
+
+-- A RUN OF QUICK ROWS, from where a line ended
+module _ (u : Given) (block : Bytes) (at : ℕ) (p : Progress) (t s : List ℕ) (r : Ran) (ran : RowsRan (u .last) block at p t s r) (b : Bounded (length block) p) where
+  same-known : r .known ≡ recounted p (r .known)
+  same-known = ran .counted (b .counted) .1
+
+  stays : (n : ℕ) → n < 6 → r .known .running ≡ n → (p .running ≡ n) × (r .place ≡ at)
+  stays n h e = let q : p .running ≡ n = sym (ap (λ (x : Progress). x .running) same-known) ∙ e in (q, ran .still (λ f. omega arith) (λ f. omega arith))
+
+  ran-flowing : Flowing at p → Flowing (r .place) (r .known)
+  ran-flowing f = record {
+    title = λ e. let q = stays 1 (omega arith) e in ap (λ (x : Progress). x .title .to) same-known ∙ f .title (q .0) ∙ sym (q .1);
+    origin = λ e. let q = stays 3 (omega arith) e in ap (λ (x : Progress). x .origin .to) same-known ∙ f .origin (q .0) ∙ sym (q .1);
+    owner = λ e. let q = stays 4 (omega arith) e in ap (λ (x : Progress). x .owner .to) same-known ∙ f .owner (q .0) ∙ sym (q .1);
+  }
+
+  ran-going : 1 ≤ u .last → Going u block at p t → Going u block (r .place) (r .known) s
+  ran-going low g =
+      let x : Reached (rulesOf u) (u .last) block at (r .place) (r .known) s (g .state) = ran .goes (rulesOf u) (g .state) refl low (b .counted) (g .shows) in
+      record { state = x .state; shows = x .shows; noticed = ap (all (λ (y : Label). ltb 0 (y .low))) (x .seen) ∙ g .noticed; goes = g .goes ∙ x .goes }
+
+  pub ran-on : 1 ≤ u .last → at ≤ length block → length s ≡ 2960 → Flowing at p → Going u block at p t
+      → (r .place ≤ length block) × (length s ≡ 2960) × Bounded (length block) (r .known) × Flowing (r .place) (r .known) × Going u block (r .place) (r .known) s
+  ran-on low h l f g = (ran .high h, l, counted-bounded (length block) p (Go (r .known)) (ran .counted (b .counted)) b, ran-flowing f, ran-going low g)
 
 -- AT THE END
 module _ (u : Given) (block : Bytes) (at : ℕ) (p : Progress) (t : List ℕ) (g : Going u block at p t) (done : length block ≤ at) (b : Bounded (length block) p) where

@@ -10,6 +10,7 @@ use crate::rules::Rules;
 use gather::progress::Part;
 use gather::progress::Progress;
 use gather::progress::Turn;
+use gather::rows_run;
 use scan::lines::line_end;
 
 // A block's judgement: what is known at its end, or the refusal's number and place.
@@ -51,13 +52,15 @@ pub fn judge(block: &[u8], u: Rules, scratch: &mut [u32]) -> Judged
         let end = line_end(block, at);
         match line_step(block, at, end, u, p, scratch) {
             Turn::Go(next) => {
-                p = next;
+                let ran = rows_run(block, end, u.last, next, scratch);
+                let known = ran.known;
+                p = known;
+                at = ran.place;
             }
             Turn::Stop(number) => {
                 return Judged::Refused(number, at);
             }
         }
-        at = end;
     }
     if p.running == 13 {
         return Judged::Accepted(p);

@@ -21,7 +21,8 @@ use Rattle.format.specs.Structure.{most, meets, repeats, clash, rowBefore, rowO
 use Rattle.format.proofs.OrderLaws.{clash-is}
 use Rattle.sorted.specs.Steps.{kept, refused, joinAfter}
 use Rattle.sorted.specs.Regions.{keyOf, payloadOf, keyedRegion, Fits}
-use Rattle.sorted.specs.Keyed.{keyed, drops, keyAt, KeysAscend, Between, withRow, JoinShows, KeptWithin}
+use Rattle.sorted.specs.Keyed.{keyed, drops, keyAt, KeysAscend, Between, withRow, JoinShows, KeptWithin, StopLeaves}
+use Rattle.sorted.specs.declared.after.RowAfter.{RowAfter}
 use Rattle.sorted.specs.declared.after.RowAfter.the-variants.{Kept, Stop}
 use Rattle.sorted.proofs.IndexLaws.{any-index, any-nowhere, span-index}
 use Rattle.sorted.proofs.KeyLaws.{repeats-payload, repeats-never}
@@ -33,6 +34,13 @@ kept-within n limit h c e = let q : n ≡ c = cc in omega arith
 
 pub stop-within : (n limit : ℕ) → KeptWithin limit (Stop n)
 stop-within n limit c e = let z : _≡_ {A = ℕ} 0 1 = cc in absurd (omega arith)
+
+-- a refusal leaves the region as it is
+pub same-leaves : (t : List ℕ) (a : RowAfter) → StopLeaves t t a
+same-leaves t a n e = refl
+
+pub kept-leaves : (t u : List ℕ) (c : ℕ) → StopLeaves t u (Kept c)
+kept-leaves t u c n e = let z : _≡_ {A = ℕ} 0 1 = cc in absurd (omega arith)
 
 -- THE TABLE of joining
 module _ (l : ListOf) (rs : List Row) (r : Row) where

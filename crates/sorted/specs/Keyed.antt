@@ -14,7 +14,7 @@ use Rattle.sorted.specs.Steps.{joinAfter, rowAfter, rowStep}
 use Rattle.sorted.specs.Regions.{keyOf, payloadOf, keyedRegion, Fits}
 use Rattle.sorted.specs.Shown.{ShowsAfter}
 use Rattle.sorted.specs.declared.after.RowAfter.{RowAfter}
-use Rattle.sorted.specs.declared.after.RowAfter.the-variants.{Kept}
+use Rattle.sorted.specs.declared.after.RowAfter.the-variants.{Kept, Stop}
 
 -- whether a list's rows stand by key; whether one that repeats another is dropped: "The same pair and kind again is dropped"
 abbrev pub keyed : ListOf → Bool
@@ -51,6 +51,10 @@ JoinShows limit key payload dropping count before after a =
 -- an answer's count is within the limit
 abbrev pub KeptWithin : ℕ → RowAfter → Type 0
 KeptWithin limit a = (c : ℕ) → a ≡ Kept c → c ≤ limit
+
+-- a refusal leaves the region as it is
+abbrev pub StopLeaves : (before after : List ℕ) → RowAfter → Type 0
+StopLeaves before after a = (n : ℕ) → a ≡ Stop n → after ≡ before
 
 -- of a row whose values are in hand: of every list by key with that limit, and every row of it with those atoms and that payload that a line can say
 abbrev pub RowShows : (most : ℕ) (ns : List ℕ) (payload : ℕ) (dropping : Bool) (n count : ℕ) (before after : List ℕ) → RowAfter → Type 0

@@ -5,7 +5,7 @@ ghost use mathlib.Core.Bool.{_&&_};
 ghost use Prim.Native.Nat.{_+_, _*_, _≤_, _<_};
 ghost use lib.ListN.{length};
 ghost use lib.Dec.{eqb, ltb};
-ghost use Rattle.sorted.specs.Keyed.{KeysAscend, Between, keyAt, opened, withRow, JoinShows, KeptWithin};
+ghost use Rattle.sorted.specs.Keyed.{KeysAscend, Between, keyAt, opened, withRow, JoinShows, KeptWithin, StopLeaves};
 use crate::after::RowAfter;
 
 // The cells from `from` up to `to` move up by w, the last first.
@@ -78,7 +78,8 @@ pub fn join(
     drops: bool,
 ) -> RowAfter
     requires { ⌜ (length (now region) ≡ 2 * most) × (count ≤ most) × (most ≤ 512) ⌝ }
-    ensures { λ r. ⌜ (length (now (region .exit)) ≡ length (now (region .entry))) × KeptWithin most r × JoinShows most key payload drops count (now (region .entry)) (now (region .exit)) r ⌝ }
+    ensures { λ r. ⌜ (length (now (region .exit)) ≡ length (now (region .entry))) × KeptWithin most r × JoinShows most key payload drops count (now (region .entry)) (now (region .exit)) r
+        × StopLeaves (now (region .entry)) (now (region .exit)) r ⌝ }
 {
     let more = count + 1;
     let place = place_of(region, count, key);

@@ -2,14 +2,14 @@
 // on only with the values in hand." A letter's value is always in its list's range, so that none of these rows is refused 10. What
 // no reading lends, another length or a count over its limit, is answered 0, and nothing is touched.
 ghost use mathlib.Core.Path.{_≡_};
-ghost use mathlib.Core.Bool.{false};
+ghost use mathlib.Core.Bool.{true, false};
 ghost use mathlib.Core.List.{[], _∷_};
-ghost use Prim.Native.Nat.{_*_, _≤_};
+ghost use Prim.Native.Nat.{_*_, _≤_, _<_};
 ghost use lib.ListN.{length};
 ghost use Rattle.lists.specs.Lists.{isNil};
 ghost use Rattle.format.specs.Bytes.{within, fields};
 ghost use Rattle.format.specs.Labels.{Bonds, Centres, Pairs};
-ghost use Rattle.sorted.specs.Keyed.{KeptWithin, RowShows, LineShows};
+ghost use Rattle.sorted.specs.Keyed.{KeptWithin, StopLeaves, RowShows, LineShows};
 use crate::after::RowAfter;
 use rows::bond::BondRow;
 use rows::centre::CentreRow;
@@ -63,7 +63,8 @@ fn two_atoms(
     drops: bool,
 ) -> RowAfter
     requires { ⌜ (length (now region) ≡ 2 * most) × (count ≤ most) × (most ≤ 512) × (atoms ≤ 256) ⌝ }
-    ensures { λ r. ⌜ (length (now (region .exit)) ≡ length (now (region .entry))) × KeptWithin most r × RowShows most (first ∷ second ∷ []) payload drops atoms count (now (region .entry)) (now (region .exit)) r ⌝ }
+    ensures { λ r. ⌜ (length (now (region .exit)) ≡ length (now (region .entry))) × KeptWithin most r × RowShows most (first ∷ second ∷ []) payload drops atoms count (now (region .entry)) (now (region .exit)) r
+        × StopLeaves (now (region .entry)) (now (region .exit)) r ⌝ }
 {
     if !is_listed(first, atoms) {
         return RowAfter::Stop(11);
@@ -78,6 +79,33 @@ fn two_atoms(
         return crate::join::join(region, count, most, 1024 * first + second, payload, drops);
     }
     crate::join::join(region, count, most, 1024 * second + first, payload, drops)
+}
+
+// What a bond whose values are in hand leaves of its list, `count` bonds there and `atoms` atoms listed; a refusal leaves the region as it is.
+pub fn bond_joined(
+    first: u32,
+    second: u32,
+    kind: u32,
+    atoms: usize,
+    count: usize,
+    region: &mut [u32],
+) -> RowAfter
+    ensures { λ r. ⌜ (length (now (region .exit)) ≡ length (now (region .entry))) × StopLeaves (now (region .entry)) (now (region .exit)) r × (length (now (region .entry)) ≡ 1024 → count ≤ 512 → atoms ≤ 256 → kind < 6 →
+        KeptWithin 512 r × RowShows 512 (first ∷ second ∷ []) (256 * kind) true atoms count (now (region .entry)) (now (region .exit)) r) ⌝ }
+{
+    if region.len() != 1024 {
+        return RowAfter::Stop(0);
+    }
+    if 512 < count {
+        return RowAfter::Stop(0);
+    }
+    if 256 < atoms {
+        return RowAfter::Stop(0);
+    }
+    if 5 < kind {
+        return RowAfter::Stop(0);
+    }
+    two_atoms(atoms, count, region, 512, first, second, 256 * kind, true)
 }
 
 // What a line of BONDLIST leaves of its list, `count` bonds there and `atoms` atoms listed: "two atoms and S, D, T, Q or A". The line is without its comment.

@@ -5,7 +5,7 @@ use native.Mathlib.Omega.{arith}
 use lib.ListN.{length}
 use borrow.Author.Needs.{needs}
 use Rattle.gather.specs.Progress.{Bounded, Flowing}
-use Rattle.reader.proofs.BlockLaws.{Going, holds-start, bounded-go, flowing-go, went, stopped, accepts, empty-refused, endless-refused}
+use Rattle.reader.proofs.BlockLaws.{Going, holds-start, ran-on, bounded-go, flowing-go, went, stopped, accepts, empty-refused, endless-refused}
 use Rattle.reader.proofs.block.judge.Statement.{statement}
 use Rattle.reader.proofs.block.judge.Tie as tie
 
@@ -30,6 +30,15 @@ line-step-requires c κs = (c .before .before .before .loop .inv .1, c .before .
 enum-known-next : tie.Need-enum-known-next Inv-loop μ-loop
 enum-known-next c = search needs
 
+rows-run-requires : tie.Need-rows-run-requires Inv-loop μ-loop
+rows-run-requires c κs = search needs
+
+loop-less : tie.Need-loop-less Inv-loop μ-loop
+loop-less c = let l = c .before .before .before .before .before .before .before .before .before .before .before .before in omega (arith, l .line-end .ensures .more (l .before .loop-test .taken), l .line-end .ensures .high (l .before .before .loop .inv .0), c .before .before .before .rows-run .ensures .1 .low)
+
+loop-again : tie.Need-loop-again Inv-loop μ-loop
+loop-again c = let s = c .before .before .before .before .before .before .before .before .before .before in let n = c .before .before .before .before .before .before .next .given .1 in let l = s .before .before in let k = l .before .before in let a = k .before .before .before .before in ran-on (a .args .u) (a .args .block .now) (l .line-end .result) _ (s .line-step .last .1 .1 .1 .1 .1 .0) (c .before .before .before .rows-run .last .1 .1 .1 .1 .0) (c .before .before .before .rows-run .result) (c .before .before .before .rows-run .ensures .1) (bounded-go _ (s .line-step .result) _ n (s .line-step .ensures .1)) (a .pre .2 .low) (l .line-end .ensures .high (k .loop .inv .0)) (c .before .before .before .rows-run .ensures .0 ∙ s .line-step .ensures .0) (flowing-go _ (s .line-step .result) _ n (s .line-step .ensures .2)) (went (a .args .u) (a .args .block .now) (k .loop .at) (l .line-end .result) (k .loop .p) (k .loop .scratch) (s .line-step .last .1 .1 .1 .1 .1 .0) (k .loop .inv .4) (l .before .loop-test .taken) (l .line-end .ensures) (s .line-step .result) (s .line-step .ensures .3) _ n)
+
 enum-known-number : tie.Need-enum-known-number Inv-loop μ-loop
 enum-known-number c = search needs
 
@@ -38,12 +47,6 @@ same-length c = c .before .before .before .before .before .line-step .ensures .0
 
 returns : tie.Need-returns Inv-loop μ-loop
 returns c = (c .before .before .before .before .before .line-step .ensures .0, stopped (c .before .before .before .before .before .before .before .before .before .before .before .before .before .args .u) (c .before .before .before .before .before .before .before .before .before .before .before .before .before .args .block .now) (c .before .before .before .before .before .before .before .before .before .loop .at) (c .before .before .before .before .before .before .before .line-end .result) (c .before .before .before .before .before .before .before .before .before .loop .p) (c .before .before .before .before .before .before .before .before .before .loop .scratch) (c .before .before .before .before .before .line-step .last .1 .1 .1 .1 .1 .0) (c .before .before .before .before .before .before .before .before .before .loop .inv .4) (c .before .before .before .before .before .before .before .before .loop-test .taken) (c .before .before .before .before .before .before .before .line-end .ensures) (c .before .before .before .before .before .line-step .result) (c .before .before .before .before .before .line-step .ensures .3) _ (c .before .number .given .1))
-
-loop-less : tie.Need-loop-less Inv-loop μ-loop
-loop-less c = omega (arith, c .before .before .before .before .before .before .before .line-end .ensures .more (c .before .before .before .before .before .before .before .before .loop-test .taken), c .before .before .before .before .before .before .before .line-end .ensures .high (c .before .before .before .before .before .before .before .before .before .loop .inv .0))
-
-loop-again : tie.Need-loop-again Inv-loop μ-loop
-loop-again c = (c .before .before .before .before .before .before .before .line-end .ensures .high (c .before .before .before .before .before .before .before .before .before .loop .inv .0), c .before .before .before .before .before .line-step .ensures .0, bounded-go _ (c .before .before .before .before .before .line-step .result) _ (c .before .next .given .1) (c .before .before .before .before .before .line-step .ensures .1), flowing-go _ (c .before .before .before .before .before .line-step .result) _ (c .before .next .given .1) (c .before .before .before .before .before .line-step .ensures .2), went (c .before .before .before .before .before .before .before .before .before .before .before .before .before .args .u) (c .before .before .before .before .before .before .before .before .before .before .before .before .before .args .block .now) (c .before .before .before .before .before .before .before .before .before .loop .at) (c .before .before .before .before .before .before .before .line-end .result) (c .before .before .before .before .before .before .before .before .before .loop .p) (c .before .before .before .before .before .before .before .before .before .loop .scratch) (c .before .before .before .before .before .line-step .last .1 .1 .1 .1 .1 .0) (c .before .before .before .before .before .before .before .before .before .loop .inv .4) (c .before .before .before .before .before .before .before .before .loop-test .taken) (c .before .before .before .before .before .before .before .line-end .ensures) (c .before .before .before .before .before .line-step .result) (c .before .before .before .before .before .line-step .ensures .3) _ (c .before .next .given .1))
 
 same-length-2 : tie.Need-same-length-2 Inv-loop μ-loop
 same-length-2 c = c .before .before .before .loop .inv .1 ∙ sym (c .before .before .before .before .before .before .before .pre .0)
@@ -74,11 +77,12 @@ judge-spec =
     line-end-requires
     line-step-requires
     enum-known-next
+    rows-run-requires
+    loop-less
+    loop-again
     enum-known-number
     same-length
     returns
-    loop-less
-    loop-again
     same-length-2
     returns-2
     same-length-3

@@ -1,0 +1,211 @@
+-- Runs of quick rows: at its start a run has reached where it is, and one quick row that joins its list takes it one line on. Document 01, "Rows". Assumes nothing.
+use Prim.Native.Nat.{ℕ, _+_, _-_, _*_, _≤_, _<_}
+use mathlib.Core.Path.{_≡_, refl, sym, ap, _∙_, subst}
+use mathlib.Core.Bool.{true, false, not}
+use mathlib.Core.List.{List, [], _∷_}
+use native.Mathlib.Omega.{arith}
+use lib.ListN.{length, take, drop, length-drop}
+use lib.Seq.{sets, length-take-le}
+use borrow.Rule.Slice.PartMut.{putMid, put-same, same-len-mid}
+use Rattle.lists.specs.Lists.{isNil}
+use Rattle.lists.proofs.Bools.{or-left}
+use Rattle.format.specs.Bytes.{Bytes, cut, fields}
+use Rattle.format.specs.Labels.{Bonds, Holds, Atoms, Rows, Label, label, known}
+use Rattle.format.specs.Rows.{atomShape, rowShape}
+use Rattle.format.specs.Structure.{isotope, massOk}
+use Rattle.format.specs.Reading.{Rules, State, past, atomLine, rowLine, lineStep, readLines}
+use Rattle.format.specs.Reading.{Go as going, Stop as stopping, Turn as Turned}
+use Rattle.format.proofs.ReadingLaws.{Keeps, read-go, atoms-keeps, rows-keeps}
+use Rattle.scan.specs.ShownLines.{byCode}
+use Rattle.scan.specs.ShownSymbols.{symOfMark}
+use Rattle.scan.specs.declared.symbols.Mark.{Mark}
+use Rattle.rows.specs.Answers.{ShowsAtomRow, ShowsBondRow}
+use Rattle.rows.specs.Shown.{isotopeShown}
+use Rattle.rows.specs.declared.atom.AtomRow.the-variants as A
+use Rattle.rows.specs.declared.bond.BondRow.the-variants as B
+use Rattle.rows.specs.declared.elements.Isotope.{Isotope as Answered}
+use Rattle.quick.specs.Quick.{lineAt, OneLine, BondIs, AtomIs}
+use Rattle.quick.proofs.StepLaws.{row-step, atom-step}
+use Rattle.sorted.specs.Regions.{topOf}
+use Rattle.gather.specs.Progress.{laid, Counted}
+use Rattle.gather.specs.Shows.{Shows, ShowsTurn}
+use Rattle.sorted.specs.Keyed.{RowShows, LineShows}
+use Rattle.gather.specs.Runs.{Reached, atomsCounted, bondsCounted, AtomsRan, BondsRan, RowsRan}
+use Rattle.gather.specs.declared.progress.Progress.{Progress}
+use Rattle.gather.specs.declared.progress.Turn.the-variants.{Go}
+use Rattle.sorted.specs.declared.after.RowAfter.{RowAfter}
+use Rattle.sorted.specs.declared.after.RowAfter.the-variants.{Kept}
+use Rattle.gather.specs.declared.runs.Run.{Run}
+use Rattle.gather.proofs.AtomLineLaws.{AtomShows, shows-joined}
+use Rattle.sorted.proofs.KeyedLines.{bond-shows}
+use Rattle.gather.proofs.TurnLaws.{atoms-turn, rows-turn}
+
+-- A LINE ON: behind a line the state has its place behind it
+line-length : (block : Bytes) (at next : ℕ) → at ≤ next → next ≤ length block → length (lineAt block at next) ≡ next - at
+line-length block at next h l = length-take-le (next - at) (drop at block) (simp length-drop (omega arith))
+
+pub past-shown : (k : ℕ) (block : Bytes) (at next : ℕ) (p : Progress) (t : List ℕ) (st : State) → at ≤ next → next ≤ length block → Shows k block at p t st → Shows k block next p t (past (lineAt block at next) st)
+unfolding laid
+past-shown k block at next p t st h l s = record {
+  place = omega (arith, s .place, line-length block at next h l);
+  running = s .running;
+  top = s .top;
+  holding = record {
+    scratch = s .holding .scratch;
+    texts = s .holding .texts;
+    formula = s .holding .formula;
+    formula-fine = s .holding .formula-fine;
+    kinds = s .holding .kinds;
+    listed = s .holding .listed;
+  };
+}
+
+module _ (u : Rules) (k : ℕ) (block : Bytes) (at place next : ℕ) (p q : Progress) (t s : List ℕ) (st : State) (r : Reached u k block at place p t st) (l : OneLine block place next) where
+  one-more : (turned : Turned) → lineStep u (r .state) (lineAt block place next) ≡ turned → Keeps (r .state) turned → ShowsTurn k block place (Go q) s turned → Reached u k block at next q s st
+  one-more (going new) e f w = record {
+    state = past (lineAt block place next) new;
+    shows = past-shown k block place next q s new (omega (arith, l .low)) (l .high) w;
+    seen = f .gone new refl .seen ∙ r .seen;
+    goes = r .goes ∙ ap (readLines u (r .state)) (l .first) ∙ read-go u (r .state) new (lineAt block place next) (cut (drop next block)) e;
+  }
+  one-more (stopping n) e f w = absurd w
+
+-- ATOMS
+pub atoms-start : (k : ℕ) (block : Bytes) (at atoms : ℕ) (t : List ℕ) → AtomsRan k block at atoms t t (record { place = at; count = atoms })
+atoms-start k block at atoms t = record {
+  low = omega arith;
+  high = λ h. h;
+  most = λ h. h;
+  goes = λ u p st e b c a g n h. record { state = st; shows = rw (sym a) h; seen = refl; goes = refl };
+}
+
+module _ (k : ℕ) (block : Bytes) (at atoms place count : ℕ) (t₀ t : List ℕ) (ran : AtomsRan k block at atoms t₀ t (record { place = place; count = count }))
+    (number : ℕ) (mark : Mark) (hydrogens next : ℕ) (row : AtomIs block place number mark hydrogens next) (follows : number ≡ count + 1)
+    (i : Answered) (j : isotopeShown i ≡ isotope k (symOfMark mark)) (found : i .element ≡ 0 → ⊥) (room : count < 256)
+    (region : List ℕ) (put : region ≡ sets (take 768 (drop 0 t)) (3 * count) (i .element ∷ i .mass ∷ hydrogens ∷ [])) where
+  light : massOk (symOfMark mark) ≡ true
+  unfolding massOk
+  light = or-left (not (mark .caret)) _ (ap not (row .plain))
+
+  answered : ShowsAtomRow (atomShape (fields (lineAt block place next))) (A.Values number mark hydrogens)
+  answered = record { is = sym (row .shape); small = (omega (arith, row .small), omega (arith, row .bare), omega (arith, row .few)) }
+
+  joins : AtomShows k count (lineAt block place next) (take 768 (drop 0 t)) region (Kept (count + 1))
+  joins = shows-joined k count (lineAt block place next) (take 768 (drop 0 t)) (row .line .inked) region (A.Values number mark hydrogens) answered number mark hydrogens refl light (omega (arith, row .few)) follows i j found room put
+
+  module _ (u : Rules) (p : Progress) (st : State) (e : u .elements ≡ k) (b : 1 ≤ k) (c : Counted p) (running : st .running ≡ Atoms) (seen : isNil (st .seen) ≡ false) (h : Shows k block at p t₀ st)
+      (r : Reached u k block at place (atomsCounted count p) t st) where
+    counted : Counted (atomsCounted count p)
+    counted = record { atoms = omega arith; bonds = c .bonds; charges = c .charges; radicals = c .radicals; centres = c .centres; pairs = c .pairs }
+
+    atom-line-is : lineStep u (r .state) (lineAt block place next) ≡ atomLine k (r .state) (fields (lineAt block place next))
+    atom-line-is =
+        atom-step u (r .state) block place next (row .line) (ap isNil (r .seen) ∙ seen) (r .shows .running ∙ sym (h .running) ∙ running)
+        ∙ ap (λ (n : ℕ). atomLine n (r .state) (fields (lineAt block place next))) e
+
+    atom-on : Reached u k block at next (atomsCounted (count + 1) p) (putMid 0 768 t region) st
+    atom-on =
+        one-more u k block at place next (atomsCounted count p) (atomsCounted (count + 1) p) t (putMid 0 768 t region) st r (row .line)
+        (atomLine k (r .state) (fields (lineAt block place next))) atom-line-is (atoms-keeps (r .state) k (fields (lineAt block place next)))
+        (atoms-turn (atomsCounted count p) t region (fields (lineAt block place next)) (Kept (count + 1)) k joins b block place (r .state) (r .shows) counted)
+
+  pub atoms-more : AtomsRan k block at atoms t₀ (putMid 0 768 t region) (record { place = next; count = count + 1 })
+  atoms-more = record {
+    low = omega (arith, ran .low, row .line .low);
+    high = λ h. row .line .high;
+    most = λ h. omega arith;
+    goes = λ u p st e b c a g n h. atom-on u p st e b c g n h (ran .goes u p st e b c a g n h);
+  }
+
+-- BONDS
+pub bonds-start : (block : Bytes) (at atoms bonds : ℕ) (t : List ℕ) → BondsRan block at atoms bonds t t (record { place = at; count = bonds })
+bonds-start block at atoms bonds t = record {
+  low = omega arith;
+  high = λ h. h;
+  most = λ h. h;
+  goes = λ u k p st c a b g n h. record { state = st; shows = rw (sym b) h; seen = refl; goes = refl };
+}
+
+module _ (block : Bytes) (at atoms bonds place count : ℕ) (t₀ t : List ℕ) (ran : BondsRan block at atoms bonds t₀ t (record { place = place; count = count }))
+    (first second kind next : ℕ) (row : BondIs block place first second kind next) (region : List ℕ) (answer : RowAfter)
+    (shown : RowShows 512 (first ∷ second ∷ []) (256 * kind) true atoms count (take 1024 (drop 1410 t)) region answer) (more : ℕ) (joined : answer ≡ Kept more) where
+  told : ShowsBondRow (rowShape Bonds (fields (lineAt block place next))) (B.Values first second kind)
+  told = record { is = sym (row .shape); small = (omega (arith, row .one), omega (arith, row .other), row .small) }
+
+  gathers : LineShows Bonds atoms count (lineAt block place next) (take 1024 (drop 1410 t)) region (Kept more)
+  gathers = bond-shows atoms count (lineAt block place next) (take 1024 (drop 1410 t)) region (row .line .inked) (B.Values first second kind) told first second kind refl (Kept more) (rw joined at shown)
+
+  module _ (u : Rules) (k : ℕ) (p : Progress) (st : State) (c : Counted p) (a : p .atoms ≡ atoms) (running : st .running ≡ Rows Bonds) (seen : isNil (st .seen) ≡ false) (h : Shows k block at p t₀ st)
+      (few : count ≤ 512) (r : Reached u k block at place (bondsCounted count p) t st) where
+    counts : Counted (bondsCounted count p)
+    counts = record { atoms = c .atoms; bonds = few; charges = c .charges; radicals = c .radicals; centres = c .centres; pairs = c .pairs }
+
+    bond-line-is : lineStep u (r .state) (lineAt block place next) ≡ rowLine Bonds (r .state) (fields (lineAt block place next))
+    bond-line-is = row-step u (r .state) block place next (row .line) (ap isNil (r .seen) ∙ seen) Bonds (r .shows .running ∙ sym (h .running) ∙ running)
+
+    bond-on : Reached u k block at next (bondsCounted more p) (putMid 1410 1024 t region) st
+    bond-on =
+        one-more u k block at place next (bondsCounted count p) (bondsCounted more p) t (putMid 1410 1024 t region) st r (row .line)
+        (rowLine Bonds (r .state) (fields (lineAt block place next))) bond-line-is (rows-keeps (r .state) Bonds (fields (lineAt block place next)))
+        (rows-turn Bonds (bondsCounted count p) t region (fields (lineAt block place next)) (Kept more)
+        (subst (λ (n : ℕ). LineShows Bonds n count (lineAt block place next) (take 1024 (drop 1410 t)) region (Kept more)) (sym a) gathers) k block place (r .state) (r .shows) counts)
+
+  pub bonds-more : count ≤ 512 → more ≤ 512 → BondsRan block at atoms bonds t₀ (putMid 1410 1024 t region) (record { place = next; count = more })
+  bonds-more few room = record {
+    low = omega (arith, ran .low, row .line .low);
+    high = λ h. row .line .high;
+    most = λ h. room;
+    goes = λ u k p st c a b g n h. bond-on u k p st c a g n h few (ran .goes u k p st c a b g n h);
+  }
+
+-- the bonds' part of the scratch, and the scratch with it put back as long as it was
+pub bonds-long : (t : List ℕ) → length t ≡ 2960 → length (take 1024 (drop 1410 t)) ≡ 1024
+bonds-long t h = length-take-le 1024 (drop 1410 t) (simp length-drop (omega arith))
+
+pub bonds-put : (t region : List ℕ) → length t ≡ 2960 → length region ≡ length (take 1024 (drop 1410 t)) → length (putMid 1410 1024 t region) ≡ 2960
+bonds-put t region h e = same-len-mid 1410 1024 t region e ∙ h
+
+-- a row that does not join leaves all as it is
+pub bonds-stay : (block : Bytes) (at atoms bonds : ℕ) (t₀ t region : List ℕ) (r : Run) → region ≡ take 1024 (drop 1410 t) → BondsRan block at atoms bonds t₀ t r
+    → BondsRan block at atoms bonds t₀ (putMid 1410 1024 t region) r
+bonds-stay block at atoms bonds t₀ t region r e ran = subst (λ (s : List ℕ). BondsRan block at atoms bonds t₀ s r) (sym (ap (putMid 1410 1024 t) e ∙ put-same 1410 1024 t)) ran
+
+-- THE LIST THAT RUNS
+seen-some : (seen : List Label) (top : ℕ) → top ≡ topOf seen → (top ≡ 0 → ⊥) → isNil seen ≡ false
+unfolding topOf
+seen-some [] top e z = absurd (z e)
+seen-some (x ∷ xs) top e z = refl
+
+module _ (k : ℕ) (block : Bytes) (at : ℕ) (p : Progress) (t : List ℕ) where
+  pub run-none : RowsRan k block at p t t (record { place = at; known = p })
+  run-none = record {
+    low = omega arith;
+    high = λ h. h;
+    counted = λ c. (c, refl);
+    still = λ a b. refl;
+    goes = λ u st e b c h. record { state = st; shows = h; seen = refl; goes = refl };
+  }
+
+  module _ (s : List ℕ) (begun : p .top ≡ 0 → ⊥) (r : Run) where
+    held : (code : ℕ) (h : Holds) → p .running ≡ code → byCode code known .holds ≡ h → (st : State) → Shows k block at p t st → st .running ≡ h
+    held code h e f st shows = shows .running ∙ ap (λ (n : ℕ). byCode n known .holds) e ∙ f
+
+    pub run-atoms : p .running ≡ 6 → AtomsRan k block at (p .atoms) t s r → RowsRan k block at p t s (record { place = r .place; known = atomsCounted (r .count) p })
+    unfolding byCode known label
+    run-atoms six ran = record {
+      low = ran .low;
+      high = ran .high;
+      counted = λ c. (record { atoms = ran .most (c .atoms); bonds = c .bonds; charges = c .charges; radicals = c .radicals; centres = c .centres; pairs = c .pairs }, refl);
+      still = λ a b. absurd (a six);
+      goes = λ u st e b c h. ran .goes u p st e b c refl (held 6 Atoms six refl st h) (seen-some (st .seen) (p .top) (h .top) begun) h;
+    }
+
+    pub run-bonds : p .running ≡ 7 → BondsRan block at (p .atoms) (p .bonds) t s r → RowsRan k block at p t s (record { place = r .place; known = bondsCounted (r .count) p })
+    unfolding byCode known label
+    run-bonds seven ran = record {
+      low = ran .low;
+      high = ran .high;
+      counted = λ c. (record { atoms = c .atoms; bonds = ran .most (c .bonds); charges = c .charges; radicals = c .radicals; centres = c .centres; pairs = c .pairs }, refl);
+      still = λ a b. absurd (b seven);
+      goes = λ u st e b c h. ran .goes u k p st c refl refl (held 7 (Rows Bonds) seven refl st h) (seen-some (st .seen) (p .top) (h .top) begun) h;
+    }
