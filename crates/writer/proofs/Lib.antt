@@ -1,0 +1,8 @@
+-- The laws of this crate, file by file. Assumes nothing.
+pub mod PrintLaws
+pub mod NumberLaws
+pub mod LetterTable
+pub mod SpellLaws
+pub mod LineLaws
+pub mod PlaceLaws
+pub mod RowLaws
