@@ -1,0 +1,52 @@
+-- Tests, order and maps told member by member, at an index: one that passes, none that passes, where a run ends, an earlier member before a later one, maps that
+-- agree on the members. Serves the laws of keys in a region. Assumes nothing.
+use Prim.Native.Nat.{ℕ, zero, suc, _≤_, _<_}
+use mathlib.Core.Path.{_≡_, refl, ap, ap₂, _∙_}
+use mathlib.Core.Bool.{Bool, true, false}
+use mathlib.Core.List.{List, [], _∷_, map}
+use native.Mathlib.Omega.{arith}
+use lib.ListN.{length, getD}
+use Rattle.lists.specs.Lists.{any, span}
+use Rattle.lists.specs.Order.{ascends, Strict}
+use Rattle.lists.proofs.ListLaws.{all-at, any-nil, any-hit, any-later, any-neither, span-nil, in-cons, out-cons}
+use Rattle.lists.proofs.SortLaws.{ascends-parts, ascends-first}
+
+module _ {A : Type 0} (p : A → Bool) (d : A) where
+  -- one that passes
+  pub any-index : (xs : List A) (i : ℕ) → i < length xs → p (getD xs i d) ≡ true → any p xs ≡ true
+  any-index [] i h e = absurd (omega arith)
+  any-index (x ∷ xs) zero h e = any-hit p x xs e
+  any-index (x ∷ xs) (suc i) h e = any-later p x xs (any-index xs i (omega arith) e)
+
+  -- none does
+  pub any-nowhere : (xs : List A) → ((i : ℕ) → i < length xs → p (getD xs i d) ≡ false) → any p xs ≡ false
+  any-nowhere [] f = any-nil p
+  any-nowhere (x ∷ xs) f = any-neither p x xs (f 0 (omega arith)) (any-nowhere xs (λ i h. f (suc i) (omega arith)))
+
+  -- where a run ends
+  pub span-index : (xs : List A) (n : ℕ) → n ≤ length xs → ((i : ℕ) → i < n → p (getD xs i d) ≡ true) → (n < length xs → p (getD xs n d) ≡ false) → span p xs ≡ n
+  span-index [] n h f g = span-nil p ∙ omega arith
+  span-index (x ∷ xs) zero h f g = out-cons p x xs (g (omega arith))
+  span-index (x ∷ xs) (suc n) h f g = in-cons p x xs (f 0 (omega arith)) ∙ ap suc (span-index xs n (omega arith) (λ i k. f (suc i) (omega arith)) (λ k. g (omega arith)))
+
+-- in order, an earlier member stands before a later one
+pub ascends-at : {A : Type 0} (before : A → A → Bool) → Strict before → (d : A) (xs : List A) (i j : ℕ) → ascends before xs ≡ true → i < j → j < length xs → before (getD xs i d) (getD xs j d) ≡ true
+ascends-at before S d [] i j a h k = absurd (omega arith)
+ascends-at before S d (x ∷ xs) i zero a h k = absurd (omega arith)
+ascends-at before S d (x ∷ xs) zero (suc j) a h k = all-at (before x) d xs j (ascends-first before S x xs a) (omega arith)
+ascends-at before S d (x ∷ xs) (suc i) (suc j) a h k = ascends-at before S d xs i j (ascends-parts before x xs a .1) (omega arith) (omega arith)
+
+module _ {A B : Type 0} where
+  pub map-length : (f : A → B) (xs : List A) → length (map f xs) ≡ length xs
+  map-length f [] = refl
+  map-length f (x ∷ xs) = ap suc (map-length f xs)
+
+  pub map-at : (f : A → B) (z : B) (d : A) (xs : List A) (i : ℕ) → i < length xs → getD (map f xs) i z ≡ f (getD xs i d)
+  map-at f z d [] i h = absurd (omega arith)
+  map-at f z d (x ∷ xs) zero h = refl
+  map-at f z d (x ∷ xs) (suc i) h = map-at f z d xs i (omega arith)
+
+  -- maps that agree on the members
+  pub map-on : (f g : A → B) (d : A) (xs : List A) → ((i : ℕ) → i < length xs → f (getD xs i d) ≡ g (getD xs i d)) → map f xs ≡ map g xs
+  map-on f g d [] h = refl
+  map-on f g d (x ∷ xs) h = ap₂ (λ (y : B) (ys : List B). y ∷ ys) (h 0 (omega arith)) (map-on f g d xs (λ i k. h (suc i) (omega arith)))

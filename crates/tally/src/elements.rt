@@ -1,0 +1,42 @@
+// The elements by their rank in the formula, and the number that an element with its mass has there: document 01, "The one written form": "C, H, then by symbol,
+// a shorter symbol before its extension; no mass before ascending masses".
+ghost use mathlib.Core.Path.{_≡_};
+ghost use Prim.Native.Nat.{_≤_};
+ghost use Rattle.format.specs.Structure.{isotopeOf};
+ghost use Rattle.tally.specs.Ranks.{rankOf, elementOf, keyOr};
+use crate::ranks::ELEMENTS;
+use crate::ranks::RANKS;
+
+// An element's rank.
+fn rank_of(element: u32) -> u32
+    requires { ⌜ (1 ≤ element) × (element ≤ 103) ⌝ }
+    ensures { λ r. ⌜ (r ≤ 103) × (r ≡ rankOf element) ⌝ }
+{
+    RANKS[element as usize] as u32
+}
+
+// The element that has a rank, 1 to 103; 0 for any other number.
+pub fn element_of(rank: u32) -> u32
+    ensures { λ r. ⌜ r ≡ elementOf rank ⌝ }
+{
+    if rank < 104 {
+        return ELEMENTS[rank as usize] as u32;
+    }
+    0
+}
+
+// The key of an element and a mass; 0 where no atom of a sound table has them.
+pub fn key_of(element: u32, mass: u32) -> u32
+    ensures { λ r. ⌜ r ≡ keyOr (isotopeOf element mass) ⌝ }
+{
+    if element < 1 {
+        return 0;
+    }
+    if 103 < element {
+        return 0;
+    }
+    if 300 < mass {
+        return 0;
+    }
+    512 * rank_of(element) + mass
+}
