@@ -6,3 +6,7 @@ pub mod SpellLaws
 pub mod LineLaws
 pub mod PlaceLaws
 pub mod RowLaws
+pub mod ListingLaws
+pub mod RecordLaws
+pub mod EntryLaws
+pub mod FormLaws

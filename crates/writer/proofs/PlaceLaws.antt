@@ -8,7 +8,7 @@ use native.Mathlib.Numerals.{add-one}
 use native.Mathlib.Omega.{arith}
 use borrow.Author.Tests.{eqb-true, eqb-false}
 use lib.Dec.{eqb}
-use lib.ListN.{length, getD, take, drop, length-take, List·getD-map}
+use lib.ListN.{length, getD, take, drop, length-take, length-drop, List·getD-map}
 use lib.IntN.{ℤ, pos, natAbs}
 use lib.Seq.{drop-cons, drop-drop, getD-drop, getD-take, length-take-le}
 use Rattle.lists.specs.Lists.{rowsFrom}
@@ -44,30 +44,31 @@ cells-two t p h =
     ∙ ap (λ k. cell t p ∷ cell t k ∷ []) (sym (add-one p))
 
 -- THE ROWS OF A LIST
-module _ (t : List ℤ) (long : 3856 ≤ length t) (i : ℕ) where
-  bonds-many : length (rowsOf Bonds (decode t)) ≡ countAt t 1 512
+module _ (t : List ℤ) where
+  pub bonds-many : length (rowsOf Bonds (decode t)) ≡ countAt t 1 512
   unfolding rowsOf decode
   bonds-many = rows-length 3 bondAt (countAt t 1 512) (drop 1296 t)
 
-  centres-many : length (rowsOf Centres (decode t)) ≡ countAt t 4 128
+  pub centres-many : length (rowsOf Centres (decode t)) ≡ countAt t 4 128
   unfolding rowsOf decode
   centres-many = rows-length 3 (markedAt 1) (countAt t 4 128) (drop 2960 t)
 
-  pairs-many : length (rowsOf Pairs (decode t)) ≡ countAt t 5 128
+  pub pairs-many : length (rowsOf Pairs (decode t)) ≡ countAt t 5 128
   unfolding rowsOf decode
   pairs-many = rows-length 4 (markedAt 2) (countAt t 5 128) (drop 3344 t)
 
+module _ (t : List ℤ) (long : 3856 ≤ length t) (i : ℕ) where
   pub bond-is : i < length (rowsOf Bonds (decode t)) → rowNo Bonds t i ≡ row (cell t (1296 + 3 * i) ∷ cell t (1296 + 3 * i + 1) ∷ []) (getD t (1296 + 3 * i + 2) (pos 0)) 0
   unfolding rowNo rowsOf decode
   bond-is h =
-      let k : i < countAt t 1 512 = omega (arith, h, bonds-many) in
+      let k : i < countAt t 1 512 = omega (arith, h, bonds-many t) in
       rows-at 3 bondAt (row [] (pos 0) 0) (countAt t 1 512) (drop 1296 t) i k ∙ ap bondAt (drop-drop (3 * i) 1296 t)
       ∙ ap₂ (λ ns v. row ns v 0) (cells-two t (1296 + 3 * i) (omega (arith, count-le t 1 512))) (getD-drop (1296 + 3 * i) t 2 (pos 0))
 
   pub centre-is : i < length (rowsOf Centres (decode t)) → rowNo Centres t i ≡ row (cell t (2960 + 3 * i) ∷ []) (getD t (2960 + 3 * i + 1) (pos 0)) (cell t (2960 + 3 * i + 2))
   unfolding rowNo rowsOf decode
   centre-is h =
-      let k : i < countAt t 4 128 = omega (arith, h, centres-many) in
+      let k : i < countAt t 4 128 = omega (arith, h, centres-many t) in
       rows-at 3 (markedAt 1) (row [] (pos 0) 0) (countAt t 4 128) (drop 2960 t) i k ∙ ap (markedAt 1) (drop-drop (3 * i) 2960 t)
       ∙ ap₂ (λ ns v. row ns v (cell (drop (2960 + 3 * i) t) 2)) (cells-one t (2960 + 3 * i) (omega (arith, count-le t 4 128))) (getD-drop (2960 + 3 * i) t 1 (pos 0))
       ∙ ap (λ z. row (cell t (2960 + 3 * i) ∷ []) (getD t (2960 + 3 * i + 1) (pos 0)) (natAbs z)) (getD-drop (2960 + 3 * i) t 2 (pos 0))
@@ -75,7 +76,7 @@ module _ (t : List ℤ) (long : 3856 ≤ length t) (i : ℕ) where
   pub pair-is : i < length (rowsOf Pairs (decode t)) → rowNo Pairs t i ≡ row (cell t (3344 + 4 * i) ∷ cell t (3344 + 4 * i + 1) ∷ []) (getD t (3344 + 4 * i + 2) (pos 0)) (cell t (3344 + 4 * i + 3))
   unfolding rowNo rowsOf decode
   pair-is h =
-      let k : i < countAt t 5 128 = omega (arith, h, pairs-many) in
+      let k : i < countAt t 5 128 = omega (arith, h, pairs-many t) in
       rows-at 4 (markedAt 2) (row [] (pos 0) 0) (countAt t 5 128) (drop 3344 t) i k ∙ ap (markedAt 2) (drop-drop (4 * i) 3344 t)
       ∙ ap₂ (λ ns v. row ns v (cell (drop (3344 + 4 * i) t) 3)) (cells-two t (3344 + 4 * i) (omega (arith, count-le t 5 128))) (getD-drop (3344 + 4 * i) t 2 (pos 0))
       ∙ ap (λ z. row (cell t (3344 + 4 * i) ∷ cell t (3344 + 4 * i + 1) ∷ []) (getD t (3344 + 4 * i + 2) (pos 0)) (natAbs z)) (getD-drop (3344 + 4 * i) t 3 (pos 0))
@@ -102,6 +103,15 @@ spread-no t p from n i rs d h =
     let m : i < n = omega (arith, k, length-take n (drop from t), min-le-left n (length (drop from t))) in
     spread-at p 1 rs (take n (drop from t)) i d k
     ∙ ap₂ (λ j v. row (membersAt p j 1 rs) v 0) q (getD-take n (drop from t) i (pos 0) m ∙ getD-drop from t i (pos 0))
+
+module _ (t : List ℤ) (long : 3856 ≤ length t) where
+  pub charges-many : length (rowsOf Charges (decode t)) ≡ countAt t 2 64
+  unfolding rowsOf decode
+  charges-many = spread-long 3 1 (atomRecords t) (take (countAt t 2 64) (drop 2832 t)) ∙ length-take-le (countAt t 2 64) (drop 2832 t) (omega (arith, length-drop 2832 t, count-le t 2 64))
+
+  pub radicals-many : length (rowsOf Radicals (decode t)) ≡ countAt t 3 64
+  unfolding rowsOf decode
+  radicals-many = spread-long 4 1 (atomRecords t) (take (countAt t 3 64) (drop 2896 t)) ∙ length-take-le (countAt t 3 64) (drop 2896 t) (omega (arith, length-drop 2896 t, count-le t 3 64))
 
 module _ (t : List ℤ) (i : ℕ) where
   pub charge-is : i < length (rowsOf Charges (decode t)) → rowNo Charges t i ≡ row (membersAt 3 (i + 1) 1 (atomRecords t)) (getD t (2832 + i) (pos 0)) 0

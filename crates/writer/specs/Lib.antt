@@ -2,3 +2,6 @@
 pub mod Printing
 pub mod Spelling
 pub mod Lines
+pub mod Listing
+pub mod Entries
+pub mod Forms

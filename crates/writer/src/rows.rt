@@ -95,7 +95,7 @@ fn letter_of(letters: &[u8], value: u32) -> u8
 }
 
 // The line of a bond: "two atoms and S, D, T, Q or A".
-fn put_bond(buffer: &mut [u8], at: usize, table: &[i32], i: usize) -> usize
+pub fn put_bond(buffer: &mut [u8], at: usize, table: &[i32], i: usize) -> usize
     requires { ⌜ (i < 512) × (3856 ≤ length (now table)) ⌝ }
     ensures { λ r. ⌜ RowLaid Bonds (now (table .entry)) i (now (buffer .entry)) at (now (buffer .exit)) r ⌝ }
 {
@@ -107,7 +107,7 @@ fn put_bond(buffer: &mut [u8], at: usize, table: &[i32], i: usize) -> usize
 }
 
 // The line of a centre: "atom, P or M, optional group"; "group 0 left out".
-fn put_centre(buffer: &mut [u8], at: usize, table: &[i32], i: usize) -> usize
+pub fn put_centre(buffer: &mut [u8], at: usize, table: &[i32], i: usize) -> usize
     requires { ⌜ (i < 512) × (3856 ≤ length (now table)) ⌝ }
     ensures { λ r. ⌜ RowLaid Centres (now (table .entry)) i (now (buffer .entry)) at (now (buffer .exit)) r ⌝ }
 {
@@ -119,7 +119,7 @@ fn put_centre(buffer: &mut [u8], at: usize, table: &[i32], i: usize) -> usize
 }
 
 // The line of a pair: "two atoms, P, M or 0, optional group".
-fn put_pair(buffer: &mut [u8], at: usize, table: &[i32], i: usize) -> usize
+pub fn put_pair(buffer: &mut [u8], at: usize, table: &[i32], i: usize) -> usize
     requires { ⌜ (i < 512) × (3856 ≤ length (now table)) ⌝ }
     ensures { λ r. ⌜ RowLaid Pairs (now (table .entry)) i (now (buffer .entry)) at (now (buffer .exit)) r ⌝ }
 {
@@ -177,7 +177,7 @@ fn put_signed(buffer: &mut [u8], at: usize, table: &[i32], place: usize) -> usiz
 }
 
 // The line of a charge: "signed value .. then no or more atoms".
-fn put_charge(buffer: &mut [u8], at: usize, table: &[i32], i: usize) -> usize
+pub fn put_charge(buffer: &mut [u8], at: usize, table: &[i32], i: usize) -> usize
     requires { ⌜ (i < 512) × (3856 ≤ length (now table)) ⌝ }
     ensures { λ r. ⌜ RowLaid Charges (now (table .entry)) i (now (buffer .entry)) at (now (buffer .exit)) r ⌝ }
 {
@@ -187,7 +187,7 @@ fn put_charge(buffer: &mut [u8], at: usize, table: &[i32], i: usize) -> usize
 }
 
 // The line of a radical: "unsigned .. then the same".
-fn put_radical(buffer: &mut [u8], at: usize, table: &[i32], i: usize) -> usize
+pub fn put_radical(buffer: &mut [u8], at: usize, table: &[i32], i: usize) -> usize
     requires { ⌜ (i < 512) × (3856 ≤ length (now table)) ⌝ }
     ensures { λ r. ⌜ RowLaid Radicals (now (table .entry)) i (now (buffer .entry)) at (now (buffer .exit)) r ⌝ }
 {
