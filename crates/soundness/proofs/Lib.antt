@@ -1,0 +1,15 @@
+-- The laws of this crate's functions, file by file. Assumes nothing.
+pub mod NumberedLaws
+pub mod NumberedLoop
+pub mod SplitLaws
+pub mod KeyLaws
+pub mod KeyedLaws
+pub mod RecordLaws
+pub mod AtomLaws
+pub mod ListLaws
+pub mod HeaderLaws
+pub mod LaidLaws
+pub mod RegionsLaws
+pub mod TestLaws
+pub mod RegionTests
+pub mod TextSpanLaws

@@ -1,0 +1,95 @@
+-- The regions' definitions over what the code has in hand: the counts that it read, the parts that it lent. Assumes nothing.
+use Prim.Native.Nat.{ℕ, _+_, _-_, _*_, _≤_, _<_}
+use mathlib.Core.Path.{_≡_, refl, sym, ap, _∙_}
+use mathlib.Core.Bool.{Bool, true, false, not, _&&_}
+use mathlib.Core.List.{List}
+use native.Mathlib.Omega.{arith}
+use lib.ListN.{length, take, drop}
+use lib.IntN.{ℤ}
+use lib.Dec.{leb}
+use borrow.Author.Tests.{lt-leb, le-leb}
+use Rattle.lists.specs.Lists.{all, rowsFrom}
+use Rattle.lists.proofs.Bools.{torn, and-parts}
+use Rattle.format.specs.Bytes.{Bytes}
+use Rattle.format.specs.Table.{cell, spansOf, soundNumbers, textOk, sound}
+use Rattle.soundness.specs.Numbered.{columnOf, inTurn}
+use Rattle.soundness.specs.Sounding.{unused, countsFine, headerFine, atomFine, atomsFine, recordsFine, keyedFine, bondsFine, centresFine, pairsFine, valueFine, valuesFine, chargesFine, radicalsFine, listsFine, regionsFine}
+use Rattle.soundness.proofs.HeaderLaws.{Header, counts-parts}
+use Rattle.soundness.proofs.RegionsLaws.{sound-regions}
+
+-- a test that was passed
+pub passed : (r a : Bool) → r ≡ a → not r ≡ false → a ≡ true
+passed true a e h = sym e
+passed false a e h = torn true refl h
+
+module _ (t : List ℤ) where
+  -- the part of the table between two places
+  stretch : (from to size : ℕ) → to - from ≡ size → unused (take (to - from) (drop from t)) ≡ unused (take size (drop from t))
+  stretch from to size e = ap (λ (i : ℕ). unused (take i (drop from t))) e
+
+  pub atoms-is : (n c r : ℕ) → n ≡ cell t 0 → c ≡ cell t 2 → r ≡ cell t 3 →
+      (all (λ b. b) (rowsFrom 5 (atomFine 103 c r) n (drop 16 t)) && unused (take (1296 - (16 + 5 * n)) (drop (16 + 5 * n) t))) ≡ atomsFine 103 t
+  unfolding atomsFine
+  atoms-is n c r e f g =
+      ap (λ (b : Bool). all (λ b. b) (rowsFrom 5 (atomFine 103 c r) n (drop 16 t)) && b) (stretch (16 + 5 * n) 1296 (1280 - 5 * n) (omega arith)) ∙ rw (e, f, g)
+
+  pub keyed-is : (members low high : ℕ) (grouped : Bool) (base w room n rows : ℕ) →
+      (recordsFine members low high grouped w n rows (drop base t) && unused (take (base + room - (base + w * rows)) (drop (base + w * rows) t))) ≡ keyedFine members low high grouped base w room n rows t
+  unfolding keyedFine
+  keyed-is members low high grouped base w room n rows =
+      ap (λ (b : Bool). recordsFine members low high grouped w n rows (drop base t) && b) (stretch (base + w * rows) (base + room) (room - w * rows) (omega arith))
+
+  pub bonds-is : (n c : ℕ) → n ≡ cell t 0 → c ≡ cell t 1 → keyedFine 2 1 5 false 1296 3 1536 n c t ≡ bondsFine t
+  unfolding bondsFine
+  bonds-is n c e f = rw (e, f)
+
+  pub centres-is : (n c : ℕ) → n ≡ cell t 0 → c ≡ cell t 4 → keyedFine 1 1 2 true 2960 3 384 n c t ≡ centresFine t
+  unfolding centresFine
+  centres-is n c e f = rw (e, f)
+
+  pub pairs-is : (n c : ℕ) → n ≡ cell t 0 → c ≡ cell t 5 → keyedFine 2 0 2 true 3344 4 512 n c t ≡ pairsFine t
+  unfolding pairsFine
+  pairs-is n c e f = rw (e, f)
+
+  pub values-is : (signed : Bool) (first rows : ℕ) →
+      (all (valueFine signed) (take (first + rows - first) (drop first t)) && unused (take (first + 64 - (first + rows)) (drop (first + rows) t))) ≡ valuesFine signed first rows t
+  unfolding valuesFine
+  values-is signed first rows =
+      let q : first + rows - first ≡ rows = omega arith in
+      ap (λ (i : ℕ). all (valueFine signed) (take i (drop first t)) && unused (take (first + 64 - (first + rows)) (drop (first + rows) t))) q
+      ∙ ap (λ (b : Bool). all (valueFine signed) (take rows (drop first t)) && b) (stretch (first + rows) (first + 64) (64 - rows) (omega arith))
+
+  pub charges-is : (n c : ℕ) → n ≡ cell t 0 → c ≡ cell t 2 → (valuesFine true 2832 c t && inTurn 0 c (columnOf 3 n t)) ≡ chargesFine t
+  unfolding chargesFine
+  charges-is n c e f = rw (e, f)
+
+  pub radicals-is : (n c : ℕ) → n ≡ cell t 0 → c ≡ cell t 3 → (valuesFine false 2896 c t && inTurn 0 c (columnOf 4 n t)) ≡ radicalsFine t
+  unfolding radicalsFine
+  radicals-is n c e f = rw (e, f)
+
+  pub lists-is : (bondsFine t && (chargesFine t && (radicalsFine t && (centresFine t && pairsFine t)))) ≡ listsFine t
+  unfolding listsFine
+  lists-is = refl
+
+  -- the whole
+  module _ (long : 3856 ≤ length t) where
+    pub numbers-is : (headerFine t && (atomsFine 103 t && listsFine t)) ≡ soundNumbers 103 t
+    unfolding regionsFine
+    numbers-is = sym (sound-regions 103 t long)
+
+    -- where the header is fine, each count is within its list's limit
+    pub header-of : headerFine t ≡ true → Header t long
+    unfolding headerFine
+    header-of h = counts-parts t long (and-parts (countsFine t) _ h .0)
+
+  -- and with the texts: a table that is too short is not sound
+  module _ (b : Bytes) where
+    pub sound-short : length t < 3856 → false ≡ (leb 3856 (length t) && sound 103 t b)
+    sound-short h = rw (lt-leb 3856 (length t) h)
+
+    pub sound-is : 3856 ≤ length t → (leb 3856 (length t) && sound 103 t b) ≡ sound 103 t b
+    sound-is h = rw (le-leb 3856 (length t) h)
+
+    pub sound-long : 3856 ≤ length t → (soundNumbers 103 t && all (textOk b) (spansOf t)) ≡ (leb 3856 (length t) && sound 103 t b)
+    unfolding sound
+    sound-long h = sym (sound-is h)

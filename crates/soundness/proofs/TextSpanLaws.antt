@@ -1,0 +1,135 @@
+-- Texts that a table names, as the code tests them: a text is trimmed if and only if as much is kept of it as it has, one of size 0 is fine at place 0 alone, and the
+-- three spans stand at 7, 9 and 11. Serves document 01, "Refusal numbers" (21). Assumes nothing.
+use Prim.Native.Nat.{ℕ, zero, suc, _+_, _-_, _≤_, _<_}
+use mathlib.Core.Path.{_≡_, refl, sym, ap, _∙_}
+use mathlib.Core.Bool.{Bool, true, false, not, _&&_, and-true}
+use mathlib.Core.List.{List, [], _∷_}
+use native.Mathlib.Numerals.{add-one}
+use native.Mathlib.Omega.{arith}
+use lib.ListN.{length, getD, take, drop, length-take}
+use lib.Seq.{drop-cons, drop-drop, getD-drop, take-all}
+use lib.IntN.{ℤ, pos, natAbs}
+use lib.Dec.{eqb, leb}
+use borrow.Author.Tests.{eq-eqb, ne-eqb, le-leb, lt-leb}
+use Rattle.lists.specs.Lists.{all}
+use Rattle.lists.proofs.Bools.{and-left-false, and-right-false}
+use Rattle.lists.proofs.ListLaws.{all-nil, all-in, all-out, all-one}
+use Rattle.lists.proofs.PairLaws.{same-differ, bytes-same}
+use Rattle.lists.proofs.RegionLaws.{rows-suc, rows-zero}
+use Rattle.format.specs.Bytes.{Bytes, same, allowed, hash, isLabel, trim, unlabelled}
+use Rattle.format.specs.Reading.{Span}
+use Rattle.format.specs.Table.{cell, spanAt, spansOf, textFine, textAt, textOk, spanOk}
+use Rattle.format.proofs.ByteLaws.{label-at, label-at-end, unlabelled-cons}
+use Rattle.format.proofs.TextLaws.{trim-nil}
+use Rattle.scan.specs.declared.fields.Field.{Field}
+use Rattle.scan.specs.Trims.{Trimmed}
+use Rattle.soundness.specs.Spans.{span, labelAfter}
+
+-- A LABEL LINE INSIDE, by an index
+module _ (s : Bytes) (i : ℕ) (h : i < length s) where
+  after-is : labelAfter (drop i s) ≡ (eqb (getD s i 0) 10 && isLabel (drop (i + 1) s))
+  after-is = ap labelAfter (drop-cons s i 0 h) ∙ rw add-one
+
+  pub after-other : (getD s i 0 ≡ 10 → ⊥) → labelAfter (drop i s) ≡ false
+  after-other e = after-is ∙ and-left-false (eqb (getD s i 0) 10) _ (ne-eqb (getD s i 0) 10 e)
+
+  pub after-short : length s - i < 3 → labelAfter (drop i s) ≡ false
+  after-short k = after-is ∙ and-right-false (eqb (getD s i 0) 10) _ (label-at-end s (i + 1) (omega arith))
+
+  after-feed : getD s i 0 ≡ 10 → 3 ≤ length s - i → labelAfter (drop i s) ≡ (hash (getD s (i + 1) 0) && hash (getD s (i + 2) 0))
+  after-feed e k =
+      let q : i + 1 + 1 ≡ i + 2 = omega arith in
+      after-is ∙ ap (λ (t : Bool). t && isLabel (drop (i + 1) s)) (eq-eqb (getD s i 0) 10 e) ∙ label-at s (i + 1) (omega arith)
+      ∙ ap (λ (n : ℕ). hash (getD s (i + 1) 0) && hash (getD s n 0)) q
+
+  pub after-one : getD s i 0 ≡ 10 → 3 ≤ length s - i → (getD s (i + 1) 0 ≡ 35 → ⊥) → labelAfter (drop i s) ≡ false
+  after-one e k f = after-feed e k ∙ and-left-false (hash (getD s (i + 1) 0)) _ (ne-eqb (getD s (i + 1) 0) 35 f)
+
+  pub after-two : getD s i 0 ≡ 10 → 3 ≤ length s - i → getD s (i + 1) 0 ≡ 35 → labelAfter (drop i s) ≡ eqb (getD s (i + 2) 0) 35
+  after-two e k f = after-feed e k ∙ ap (λ (t : Bool). t && hash (getD s (i + 2) 0)) (eq-eqb (getD s (i + 1) 0) 35 f)
+
+  plain-is : unlabelled (drop i s) ≡ (not (labelAfter (drop i s)) && unlabelled (drop (i + 1) s))
+  plain-is = ap unlabelled (drop-cons s i 0 h) ∙ unlabelled-cons (getD s i 0) (drop (suc i) s) ∙ rw (drop-cons s i 0 h, add-one)
+
+  pub plain-hit : labelAfter (drop i s) ≡ true → unlabelled (drop i s) ≡ false
+  plain-hit e = plain-is ∙ and-left-false (not (labelAfter (drop i s))) _ (ap not e)
+
+  pub plain-on : labelAfter (drop i s) ≡ false → unlabelled (drop i s) ≡ unlabelled (drop (i + 1) s)
+  plain-on e = plain-is ∙ ap (λ (t : Bool). not t && unlabelled (drop (i + 1) s)) e
+
+-- A FINE TEXT
+module _ (s : Bytes) where
+  fine-is : textFine s ≡ (same (trim s) s && (all allowed s && unlabelled s))
+  unfolding textFine
+  fine-is = refl
+
+  -- as much is kept as there is, or less
+  pub untrimmed : (r : Field) → Trimmed s r → r .to - r .from < length s → textFine s ≡ false
+  untrimmed r k h =
+      let e : length (trim s) ≡ length (take (r .to - r .from) (drop (r .from) s)) = sym (ap length (k .is)) in
+      fine-is ∙ and-left-false (same (trim s) s) _ (same-differ eqb (trim s) s (λ q. omega (arith, e, length-take (r .to - r .from) (drop (r .from) s))))
+
+  trimmed-same : (r : Field) → Trimmed s r → length s ≤ r .to - r .from → same (trim s) s ≡ true
+  trimmed-same r k h =
+      let f : r .from ≡ 0 = omega (arith, k .high) in
+      let e : take (r .to - r .from) (drop (r .from) s) ≡ s = ap (λ (n : ℕ). take (r .to - r .from) (drop n s)) f ∙ take-all (r .to - r .from) s h in
+      bytes-same (trim s) s (sym (k .is) ∙ e)
+
+  pub unclean : all allowed s ≡ false → textFine s ≡ false
+  unclean e = fine-is ∙ and-right-false (same (trim s) s) _ (and-left-false (all allowed s) (unlabelled s) e)
+
+  pub fine-plain : (r : Field) → Trimmed s r → length s ≤ r .to - r .from → all allowed s ≡ true → textFine s ≡ unlabelled s
+  fine-plain r k h e = fine-is ∙ rw (trimmed-same r k h, e)
+
+fine-nil : textFine [] ≡ true
+unfolding unlabelled
+fine-nil = fine-is [] ∙ rw (bytes-same (trim []) [] trim-nil, all-nil allowed)
+
+-- A TEXT IN ITS PLACE
+module _ (b : Bytes) (p n : ℕ) where
+  ok-is : textOk b (span p n) ≡ (spanOk p n b && textFine (take n (drop p b)))
+  unfolding textOk textAt
+  ok-is = refl
+
+  inside : (n ≡ 0 → ⊥) → spanOk p n b ≡ leb (p + n) (length b)
+  inside e = go n e
+    where
+      go : (m : ℕ) → (m ≡ 0 → ⊥) → spanOk p m b ≡ leb (p + m) (length b)
+      go zero f = absurd (f refl)
+      go (suc m) f = refl
+
+  pub ok-outside : (n ≡ 0 → ⊥) → length b < p + n → textOk b (span p n) ≡ false
+  ok-outside e h = ok-is ∙ and-left-false (spanOk p n b) _ (inside e ∙ lt-leb (p + n) (length b) h)
+
+  pub ok-inside : (n ≡ 0 → ⊥) → p + n ≤ length b → textOk b (span p n) ≡ textFine (take (p + n - p) (drop p b))
+  ok-inside e h =
+      let q : n ≡ p + n - p = omega arith in
+      ok-is ∙ ap (λ (t : Bool). t && textFine (take n (drop p b))) (inside e ∙ le-leb (p + n) (length b) h) ∙ ap (λ (m : ℕ). textFine (take m (drop p b))) q
+
+pub ok-empty : (b : Bytes) (p n : ℕ) → n ≡ 0 → textOk b (span p n) ≡ eqb p 0
+ok-empty b p n e = ap (λ (m : ℕ). textOk b (span p m)) e ∙ ok-is b p 0 ∙ ap (λ (t : Bool). eqb p 0 && t) fine-nil ∙ and-true (eqb p 0)
+
+-- THE THREE SPANS
+span-at : (t : List ℤ) (at : ℕ) → span (cell t at) (cell t (at + 1)) ≡ spanAt (drop at t)
+span-at t at =
+    let a : getD (drop at t) 0 (pos 0) ≡ getD t at (pos 0) = getD-drop at t 0 (pos 0) ∙ (let q : at + 0 ≡ at = omega arith in ap (λ (n : ℕ). getD t n (pos 0)) q) in
+    let b : getD (drop at t) 1 (pos 0) ≡ getD t (at + 1) (pos 0) = getD-drop at t 1 (pos 0) in
+    sym (ap (λ (z : ℤ). span (natAbs z) (cell (drop at t) 1)) a ∙ ap (λ (z : ℤ). span (cell t at) (natAbs z)) b)
+
+pub named-is : (b : Bytes) (t : List ℤ) (at p n : ℕ) → p ≡ cell t at → n ≡ cell t (at + 1) → textOk b (span p n) ≡ textOk b (spanAt (drop at t))
+named-is b t at p n e f = ap (λ (k : ℕ). textOk b (span k n)) e ∙ ap (λ (k : ℕ). textOk b (span (cell t at) k)) f ∙ ap (textOk b) (span-at t at)
+
+spans-are : (t : List ℤ) → spansOf t ≡ spanAt (drop 7 t) ∷ spanAt (drop 9 t) ∷ spanAt (drop 11 t) ∷ []
+unfolding spansOf
+spans-are t =
+    rows-suc 2 spanAt 2 (drop 7 t) ∙ rw (rows-suc 2 spanAt 1 (drop 2 (drop 7 t)), rows-suc 2 spanAt 0 (drop 2 (drop 2 (drop 7 t))), rows-zero 2 spanAt (drop 2 (drop 2 (drop 2 (drop 7 t)))), drop-drop 2 7 t, drop-drop 2 9 t)
+
+module _ (p : Span → Bool) (t : List ℤ) where
+  pub first-out : p (spanAt (drop 7 t)) ≡ false → all p (spansOf t) ≡ false
+  first-out e = ap (all p) (spans-are t) ∙ all-out p _ _ e
+
+  pub second-out : p (spanAt (drop 7 t)) ≡ true → p (spanAt (drop 9 t)) ≡ false → all p (spansOf t) ≡ false
+  second-out e f = ap (all p) (spans-are t) ∙ all-in p _ _ e ∙ all-out p _ _ f
+
+  pub third-is : p (spanAt (drop 7 t)) ≡ true → p (spanAt (drop 9 t)) ≡ true → all p (spansOf t) ≡ p (spanAt (drop 11 t))
+  third-is e f = ap (all p) (spans-are t) ∙ all-in p _ _ e ∙ all-in p _ _ f ∙ all-one p _

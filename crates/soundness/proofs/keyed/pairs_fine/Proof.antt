@@ -1,0 +1,25 @@
+-- `soundness::keyed::pairs_fine` meets its contract. Assumes nothing.
+use mathlib.Core.Path.{_∙_}
+use Rattle.soundness.proofs.RegionTests.{pairs-is}
+use borrow.Author.Needs.{needs}
+use Rattle.soundness.proofs.keyed.pairs_fine.Statement.{statement}
+use Rattle.soundness.proofs.keyed.pairs_fine.Tie as tie
+
+cell-requires : tie.Need-cell-requires
+cell-requires c κs = search needs
+
+cell-requires-2 : tie.Need-cell-requires-2
+cell-requires-2 c κs = search needs
+
+cast-rows : tie.Need-cast-rows
+cast-rows c = search needs
+
+keyed-fine-requires : tie.Need-keyed-fine-requires
+keyed-fine-requires c κs = search needs
+
+returns : tie.Need-returns
+returns c = c .keyed-fine .ensures ∙ pairs-is (c .before .before .before .args .table .now) _ _ (c .before .before .cell .ensures) (c .before .cell2 .ensures)
+
+pub pairs-fine-spec : {M : Type 1} → statement M
+pairs-fine-spec =
+    tie.close (tie.spec cell-requires cell-requires-2 cast-rows keyed-fine-requires returns)

@@ -1,0 +1,42 @@
+-- `soundness::parts::all_zero` meets its contract. Assumes nothing.
+use Prim.Native.Nat.{_-_, _≤_}
+use mathlib.Core.Path.{_≡_, sym, _∙_}
+use mathlib.Core.Bool.{_&&_}
+use native.Mathlib.Omega.{arith}
+use lib.ListN.{length, drop}
+use borrow.Author.Needs.{needs}
+use Rattle.lists.specs.Lists.{all}
+use Rattle.format.specs.Structure.{ranging}
+use Rattle.soundness.specs.Sounding.{unused}
+use Rattle.soundness.proofs.TestLaws.{unused-whole, zeros-turn, zeros-end}
+use Rattle.soundness.proofs.parts.all_zero.Statement.{statement}
+use Rattle.soundness.proofs.parts.all_zero.Tie as tie
+
+abbrev Inv-loop : tie.InvT-loop
+Inv-loop part fine₀ i₀ fine i = (i ≤ length part) × (unused part ≡ (fine && all (ranging 0 0) (drop i part)))
+
+abbrev μ-loop : tie.MeasureT-loop
+μ-loop part fine₀ i₀ fine i = length part - i
+
+loop-holds : tie.Need-loop-holds Inv-loop μ-loop
+loop-holds c = (omega arith, unused-whole _ 0)
+
+zero-too-requires : tie.Need-zero-too-requires Inv-loop μ-loop
+zero-too-requires c κs = search needs
+
+add-i : tie.Need-add-i Inv-loop μ-loop
+add-i c = search needs
+
+loop-less : tie.Need-loop-less Inv-loop μ-loop
+loop-less c = search needs
+
+loop-again : tie.Need-loop-again Inv-loop μ-loop
+loop-again c = (omega arith, c .before .before .loop .inv .1 ∙ zeros-turn (c .before .before .before .args .part .now) _ (c .before .loop-test .taken) (c .before .before .loop .fine) _ (c .zero-too .ensures))
+
+returns : tie.Need-returns Inv-loop μ-loop
+returns c = sym (c .before .loop .inv .1 ∙ zeros-end (c .before .before .args .part .now) _ (c .loop-test .left) _)
+
+pub all-zero-spec : {M : Type 1} → statement M
+all-zero-spec =
+    tie.close
+    (tie.spec Inv-loop μ-loop loop-holds zero-too-requires add-i loop-less loop-again returns)

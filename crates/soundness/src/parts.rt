@@ -1,0 +1,80 @@
+// Tests of every number of a part of the table: document 01, "The structure table" ("unused ones are 0"), "Rows" (the values of charges and radicals).
+ghost use mathlib.Core.Path.{_≡_};
+ghost use mathlib.Core.Bool.{not, _&&_};
+ghost use Prim.Native.Nat.{_<_};
+ghost use lib.ListN.{length, getD};
+ghost use lib.IntN.{pos};
+ghost use Rattle.lists.specs.Lists.{all};
+ghost use Rattle.format.specs.Structure.{ranging};
+ghost use Rattle.cells.specs.Signs.{negative};
+ghost use Rattle.soundness.specs.Sounding.{unused, valueFine};
+use cells::cell;
+use cells::is_negative;
+use cells::ranges;
+
+// Whether it was so of those before, and the number there is 0.
+fn zero_too(part: &[i32], at: usize, before: bool) -> bool
+    requires { ⌜ at < length (now part) ⌝ }
+    ensures { λ r. ⌜ r ≡ before && ranging 0 0 (getD (now (part .entry)) at (pos 0)) ⌝ }
+{
+    let number = part[at];
+    if number != 0 {
+        return false;
+    }
+    before
+}
+
+// Whether each number is 0: "unused ones are 0". Most tables are mostly zeros, so every number is looked at: a loop that nothing ends early tests several at once.
+pub fn all_zero(part: &[i32]) -> bool
+    ensures { λ r. ⌜ r ≡ unused (now (part .entry)) ⌝ }
+{
+    let mut fine = true;
+    let mut i = 0;
+    while i < part.len() {
+        fine = zero_too(part, i, fine);
+        i += 1;
+    }
+    fine
+}
+
+// Whether no number is below zero.
+pub fn none_negative(part: &[i32]) -> bool
+    ensures { λ r. ⌜ r ≡ all (λ z. not (negative z)) (now (part .entry)) ⌝ }
+{
+    let mut i = 0;
+    while i < part.len() {
+        if is_negative(part, i) {
+            return false;
+        }
+        i += 1;
+    }
+    true
+}
+
+// A charge's value, "-99 to 99 and not 0", or a radical's, "1 to 15".
+pub fn value_fine(part: &[i32], at: usize, signed: bool) -> bool
+    ensures { λ r. ⌜ r ≡ valueFine signed (getD (now (part .entry)) at (pos 0)) ⌝ }
+{
+    if signed {
+        let size = cell(part, at);
+        if size < 1 {
+            return false;
+        }
+        return size <= 99;
+    }
+    ranges(part, at, 1, 15)
+}
+
+// Whether each is a value of its list.
+pub fn values_fine(part: &[i32], signed: bool) -> bool
+    ensures { λ r. ⌜ r ≡ all (valueFine signed) (now (part .entry)) ⌝ }
+{
+    let mut i = 0;
+    while i < part.len() {
+        if !value_fine(part, i, signed) {
+            return false;
+        }
+        i += 1;
+    }
+    true
+}

@@ -1,0 +1,93 @@
+// The texts that a table names: document 01, "Refusal numbers" ("a text out of bounds, untrimmed, with a byte not allowed, or with `##` right after a line feed").
+ghost use mathlib.Core.Path.{_≡_};
+ghost use Prim.Native.Nat.{_<_, _≤_};
+ghost use lib.ListN.{length, drop};
+ghost use Rattle.lists.specs.Lists.{all};
+ghost use Rattle.format.specs.Bytes.{unlabelled};
+ghost use Rattle.format.specs.Table.{spanAt, spansOf, textFine, textOk};
+ghost use Rattle.soundness.specs.Spans.{span, labelAfter};
+use cells::cell;
+use format::Table;
+
+// Whether a line feed stands there, with "`##` right after" it.
+fn label_after(text: &[u8], at: usize) -> bool
+    requires { ⌜ at < length (now text) ⌝ }
+    ensures { λ r. ⌜ r ≡ labelAfter (drop at (now (text .entry))) ⌝ }
+{
+    if text[at] != 10 {
+        return false;
+    }
+    if text.len() - at < 3 {
+        return false;
+    }
+    if text[at + 1] != 35 {
+        return false;
+    }
+    text[at + 2] == 35
+}
+
+// Whether no line but the first is a label line: no "`##` right after a line feed".
+fn plain(text: &[u8]) -> bool
+    ensures { λ r. ⌜ r ≡ unlabelled (now (text .entry)) ⌝ }
+{
+    let mut i = 0;
+    while i < text.len() {
+        if label_after(text, i) {
+            return false;
+        }
+        i += 1;
+    }
+    true
+}
+
+// Whether a text is trimmed, of allowed bytes, and has no label line inside. What is kept of a trimmed text is all of it.
+fn fine(text: &[u8]) -> bool
+    ensures { λ r. ⌜ r ≡ textFine (now (text .entry)) ⌝ }
+{
+    let kept = scan::texts::trimmed(text);
+    if kept.to - kept.from < text.len() {
+        return false;
+    }
+    if !scan::lines::clean(text) {
+        return false;
+    }
+    plain(text)
+}
+
+// Whether a text of that place and size stands in the bytes and is fine: "(empty: 0, 0)".
+fn stands(bytes: &[u8], place: u32, size: u32) -> bool
+    ensures { λ r. ⌜ r ≡ textOk (now (bytes .entry)) (span place size) ⌝ }
+{
+    if size == 0 {
+        return place == 0;
+    }
+    let from = place as usize;
+    let to = from + size as usize;
+    if bytes.len() < to {
+        return false;
+    }
+    fine(&bytes[from..to])
+}
+
+// The same of the text whose place and size the table has there.
+fn named(table: &[i32], bytes: &[u8], at: usize) -> bool
+    requires { ⌜ at ≤ 3856 ⌝ }
+    ensures { λ r. ⌜ r ≡ textOk (now (bytes .entry)) (spanAt (drop at (now (table .entry)))) ⌝ }
+{
+    let place = cell(table, at);
+    let size = cell(table, at + 1);
+    stands(bytes, place, size)
+}
+
+// Whether each of "title, origin, owner" stands in the bytes and is fine.
+pub fn texts_fine(table: &[i32], bytes: &[u8]) -> bool
+    ensures { λ r. ⌜ r ≡ all (textOk (now (bytes .entry))) (spansOf (now (table .entry))) ⌝ }
+{
+    if !named(table, bytes, Table::FIRST_TEXT) {
+        return false;
+    }
+    if !named(table, bytes, Table::FIRST_TEXT + 2) {
+        return false;
+    }
+    named(table, bytes, Table::FIRST_TEXT + 4)
+}
