@@ -10,3 +10,5 @@ pub mod ListingLaws
 pub mod RecordLaws
 pub mod EntryLaws
 pub mod FormLaws
+pub mod SoundLaws
+pub mod AnswerLaws

@@ -5,3 +5,4 @@ pub mod Lines
 pub mod Listing
 pub mod Entries
 pub mod Forms
+pub mod Answers
