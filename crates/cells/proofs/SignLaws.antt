@@ -23,7 +23,7 @@ use Rattle.format.specs.Table.{cell}
 use Rattle.cells.specs.Signs.{negative}
 
 -- beyond the end stands the default
-beyond : {A : Type 0} (d : A) (l : List A) (i : ℕ) → length l ≤ i → getD l i d ≡ d
+pub beyond : {A : Type 0} (d : A) (l : List A) (i : ℕ) → length l ≤ i → getD l i d ≡ d
 beyond d [] i h = refl
 beyond d (x ∷ l) zero h = absurd (not-suc-le-zero h)
 beyond d (x ∷ l) (suc i) h = beyond d l i (le-of-suc-le-suc h)

@@ -1,0 +1,83 @@
+-- A sound table can be printed: its atoms have letters, its groups are bytes. Document 01, "Refusal numbers" (21). Assumes nothing.
+use Prim.Native.Nat.{ℕ, _≤_, _<_}
+use mathlib.Core.Path.{_≡_, refl, sym, ap, _∙_}
+use mathlib.Core.Bool.{Bool, true, false, _&&_, _||_, not}
+use mathlib.Core.List.{List, [], _∷_}
+use native.Mathlib.Omega.{arith}
+use borrow.Author.Tests.{eqb-true, lt-ltb, leb-true}
+use lib.Dec.{eqb, ltb, leb}
+use lib.ListN.{length, take}
+use lib.IntN.{ℤ}
+use Rattle.lists.specs.Lists.{all, pairs, sameBy}
+use Rattle.lists.specs.Order.{ascends}
+use Rattle.lists.proofs.Bools.{torn, and-parts, or-other}
+use Rattle.lists.proofs.ListLaws.{all-parts, all-imply}
+use Rattle.format.specs.Bytes.{Bytes, within}
+use Rattle.format.specs.Labels.{ListOf, Bonds, Charges, Radicals, Centres, Pairs}
+use Rattle.format.specs.Rows.{Row, upper, lower}
+use Rattle.format.specs.Structure.{Structure, rowsOf, lists, most, meets, rowBefore, atomOk, groupOk, rowOk, rowsOk, wellFormed}
+use Rattle.format.specs.Table.{decode, encode, spansOf, sameNumber, soundNumbers, textOk, sound}
+use Rattle.format.proofs.ByteLaws.{within-true}
+use Rattle.format.proofs.RowLaws.{row-fine}
+use Rattle.tally.specs.Gathering.{Gathers}
+use Rattle.writer.specs.Listing.{groupsFit, GroupsFit}
+use Rattle.writer.specs.Forms.{Printable}
+
+-- A GROUP IS A BYTE
+letter-small : (g : ℕ) → (upper g || lower g) ≡ true → g < 256
+letter-small g h = go (upper g) refl
+  where
+    go : (t : Bool) → upper g ≡ t → g < 256
+    go true e = omega (arith, within-true 65 90 g e .1)
+    go false e = omega (arith, within-true 97 122 g (or-other (upper g) (lower g) h e) .1)
+
+group-small : (l : ListOf) (g : ℕ) → groupOk l g ≡ true → g < 256
+unfolding groupOk
+group-small l g h = go (eqb g 0) refl
+  where
+    other : (l : ListOf) → groupOk l g ≡ true → eqb g 0 ≡ false → g < 256
+    other Bonds k e = torn (groupOk Bonds g) k (ap (λ t. t || false) e)
+    other Charges k e = torn (groupOk Charges g) k (ap (λ t. t || false) e)
+    other Radicals k e = torn (groupOk Radicals g) k (ap (λ t. t || false) e)
+    other Centres k e = letter-small g (or-other (eqb g 0) (upper g || lower g) k e)
+    other Pairs k e = letter-small g (or-other (eqb g 0) (upper g || lower g) k e)
+
+    go : (t : Bool) → eqb g 0 ≡ t → g < 256
+    go true e = omega (arith, eqb-true g 0 e)
+    go false e = other l h e
+
+rows-small : (n : ℕ) (s : Structure) (l : ListOf) → rowsOk n s l ≡ true → groupsFit (rowsOf l s) ≡ true
+unfolding rowsOk
+rows-small n s l h =
+    let p = and-parts (leb (length (rowsOf l s)) (most l)) (all (rowOk l n) (rowsOf l s) && (ascends rowBefore (rowsOf l s) && not (pairs (meets l) (rowsOf l s)))) h in
+    let q = and-parts (all (rowOk l n) (rowsOf l s)) (ascends rowBefore (rowsOf l s) && not (pairs (meets l) (rowsOf l s))) (p .1) in
+    all-imply (rowOk l n) (λ r. ltb (r .group) 256) (λ r k. lt-ltb (r .group) 256 (group-small l (r .group) (row-fine l n r k .group))) (rowsOf l s) (q .0)
+
+each-list : (p : ListOf → Bool) → all p lists ≡ true → (l : ListOf) → p l ≡ true
+unfolding lists
+each-list p h =
+    let a = all-parts p Bonds (Charges ∷ Radicals ∷ Centres ∷ Pairs ∷ []) h in
+    let b = all-parts p Charges (Radicals ∷ Centres ∷ Pairs ∷ []) (a .1) in
+    let c = all-parts p Radicals (Centres ∷ Pairs ∷ []) (b .1) in
+    let d = all-parts p Centres (Pairs ∷ []) (c .1) in
+    λ l. elim l [ Bonds ↦ a .0 | Charges ↦ b .0 | Radicals ↦ c .0 | Centres ↦ d .0 | Pairs ↦ all-parts p Pairs [] (d .1) .0 ]
+
+-- A SOUND TABLE
+module _ (t : List ℤ) (b : Bytes) (h : sound 103 t b ≡ true) where
+  well : wellFormed 103 (decode t) ≡ true
+  unfolding sound soundNumbers
+  well = and-parts (wellFormed 103 (decode t)) (sameBy sameNumber (encode (decode t) (spansOf t)) (take 3856 t)) (and-parts (soundNumbers 103 t) (all (textOk b) (spansOf t)) h .0) .0
+
+  parts : (all (atomOk 103) (decode t .atoms) ≡ true) × (all (rowsOk (length (decode t .atoms)) (decode t)) lists ≡ true)
+  unfolding wellFormed
+  parts =
+      let p = and-parts (within 1 256 (length (decode t .atoms))) (all (atomOk 103) (decode t .atoms) && (all (rowsOk (length (decode t .atoms)) (decode t)) lists && leb (decode t .id) 999999)) well in
+      let q = and-parts (all (atomOk 103) (decode t .atoms)) (all (rowsOk (length (decode t .atoms)) (decode t)) lists && leb (decode t .id) 999999) (p .1) in
+      (q .0, and-parts (all (rowsOk (length (decode t .atoms)) (decode t)) lists) (leb (decode t .id) 999999) (q .1) .0)
+
+  pub sound-printable : (n : ℕ) (keys counts : List ℕ) → Gathers t n keys counts → Printable t n keys counts
+  sound-printable n keys counts g = record {
+    atoms = parts .0;
+    groups = λ l. rows-small (length (decode t .atoms)) (decode t) l (each-list (rowsOk (length (decode t .atoms)) (decode t)) (parts .1) l);
+    entries = g (parts .0);
+  }

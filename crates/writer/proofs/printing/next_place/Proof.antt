@@ -1,0 +1,17 @@
+-- `writer::printing::next_place` meets its contract. Assumes nothing.
+use Rattle.writer.proofs.PrintLaws.{next-in, next-out}
+use borrow.Author.Needs.{needs}
+use Rattle.writer.proofs.printing.next_place.Statement.{statement}
+use Rattle.writer.proofs.printing.next_place.Tie as tie
+
+add-result : tie.Need-add-result
+add-result c = search needs
+
+returns : tie.Need-returns
+returns c = next-in _ (c .if1 .taken)
+
+returns-2 : tie.Need-returns-2
+returns-2 c = next-out _ (c .if1 .left)
+
+pub next-place-spec : {M : Type 1} → statement M
+next-place-spec = tie.close (tie.spec add-result returns returns-2)

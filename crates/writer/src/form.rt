@@ -1,0 +1,37 @@
+// The one written form of a table: document 01, "The one written form" ("Records in this order: TITLE, JCAMP-CS, ORIGIN, OWNER, BLOCK_ID, MOLFORM, ATOMLIST,
+// BONDLIST, CHARGE, RADICAL, STEREOCENTER, STEREOPAIR, END").
+ghost use mathlib.Core.Path.{_≡_};
+ghost use Prim.Native.Nat.{_≤_};
+ghost use lib.ListN.{length};
+ghost use Rattle.writer.specs.Forms.{FormLaid};
+use crate::formula::put_formula;
+use crate::listing::put_atoms;
+use crate::listing::put_lists;
+use crate::printing::put_text;
+use crate::records::put_id;
+use crate::records::put_span;
+use cells::cell;
+
+// Every record, from the buffer's front on.
+pub fn put_form(
+    buffer: &mut [u8],
+    table: &[i32],
+    bytes: &[u8],
+    keys: &[u32; 257],
+    counts: &[u32; 257],
+    entries: usize,
+) -> usize
+    requires { ⌜ (3856 ≤ length (now table)) × (entries ≤ 257) ⌝ }
+    ensures { λ r. ⌜ FormLaid (now (table .entry)) (now (bytes .entry)) entries (now (keys .entry)) (now (counts .entry)) (now (buffer .entry)) (now (buffer .exit)) r ⌝ }
+{
+    let title = put_span(buffer, 0, b"##TITLE=", table, 7, bytes);
+    let version = put_text(buffer, title, b"##JCAMP-CS= 3.7\n");
+    let origin = put_span(buffer, version, b"##ORIGIN=", table, 9, bytes);
+    let owner = put_span(buffer, origin, b"##OWNER=", table, 11, bytes);
+    let id = put_id(buffer, owner, cell(table, 6));
+    let formula = put_formula(buffer, id, keys, counts, entries);
+    let label = put_text(buffer, formula, b"##ATOMLIST=\n");
+    let atoms = put_atoms(buffer, label, table);
+    let lists = put_lists(buffer, atoms, table);
+    put_text(buffer, lists, b"##END=\n")
+}

@@ -1,0 +1,73 @@
+// Writing a table as the one written form: document 01, "The one written form" and the writing part of "Refusal numbers". A form is measured before the first byte
+// is laid, so that a refusal leaves the buffer alone.
+ghost use mathlib.Core.Path.{_≡_};
+ghost use Prim.Native.Nat.{_≤_};
+ghost use lib.ListN.{length};
+ghost use Rattle.format.specs.Writing.{writeResult};
+ghost use Rattle.writer.specs.Answers.{shown, SoundWritten, Measured};
+use form::put_form;
+use format::Table;
+use soundness::is_sound;
+use tally::gather;
+
+mod form; // form.rt: every record in its order
+mod formula; // formula.rt: the record of the formula
+mod letters; // letters.rt: the table of the elements' letters
+mod listing; // listing.rt: the atoms and the rows of every list
+mod printing; // printing.rt: bytes, texts and numbers
+mod records; // records.rt: texts and the block's number
+mod rows; // rows.rt: one line of each list
+mod symbols; // symbols.rt: an element and its mass
+
+// How many bytes were written, or the refusal's number: 1, 21, 23, 22.
+pub enum Answer {
+    Written(usize),
+    Refused(u32),
+}
+
+// How many bytes the form has; one beyond the longest where it has more.
+fn measure(
+    table: &[i32],
+    bytes: &[u8],
+    keys: &[u32; 257],
+    counts: &[u32; 257],
+    entries: usize,
+) -> usize
+    requires { ⌜ (3856 ≤ length (now table)) × (entries ≤ 257) ⌝ }
+    ensures { λ r. ⌜ Measured (now (table .entry)) (now (bytes .entry)) entries (now (keys .entry)) (now (counts .entry)) r ⌝ }
+{
+    let mut spare = [0u8; 1];
+    put_form(&mut spare, table, bytes, keys, counts, entries)
+}
+
+// A sound table: "23, the form would pass 32,768 bytes; 22, the buffer is shorter"; else it is written.
+fn write_sound(table: &[i32], bytes: &[u8], buffer: &mut [u8]) -> Answer
+    requires { ⌜ 3856 ≤ length (now table) ⌝ }
+    ensures { λ r. ⌜ SoundWritten (now (table .entry)) (now (bytes .entry)) (now (buffer .entry)) r (now (buffer .exit)) ⌝ }
+{
+    let mut keys = [0u32; 257];
+    let mut counts = [0u32; 257];
+    let entries = gather(table, &mut keys, &mut counts);
+    let size = measure(table, bytes, &keys, &counts, entries);
+    if Table::BLOCK < size {
+        return Answer::Refused(23);
+    }
+    if buffer.len() < size {
+        return Answer::Refused(22);
+    }
+    put_form(buffer, table, bytes, &keys, &counts, entries);
+    Answer::Written(size)
+}
+
+// "Writing takes a table, the bytes its texts stand in, and a buffer. Refusals in this order: 1; 21, the table isn't sound ..; 23 ..; 22 .."
+pub fn write(table: &[i32], bytes: &[u8], buffer: &mut [u8]) -> Answer
+    ensures { λ r. ⌜ shown r (now (buffer .exit)) ≡ writeResult 103 (now (table .entry)) (now (bytes .entry)) (now (buffer .entry)) ⌝ }
+{
+    if table.len() < Table::SIZE {
+        return Answer::Refused(1);
+    }
+    if !is_sound(table, bytes) {
+        return Answer::Refused(21);
+    }
+    write_sound(table, bytes, buffer)
+}
