@@ -25,10 +25,17 @@ use Rattle.scan.specs.declared.numbers.Numeral.the-variants as N
 use Rattle.scan.specs.declared.numbers.SignedNumeral.{SignedNumeral}
 use Rattle.scan.specs.declared.numbers.SignedNumeral.the-variants as G
 use Rattle.sorted.specs.Regions.{coded}
-use Rattle.gather.specs.Members.{Valued, ShowsValue, isSome, orZero, isNumber, memberIn, membersIn, NumberAt, ShowsMember, MemberAt, claims, claimed, ShowsClaim}
+use Rattle.gather.specs.Members.{Valued, Coding, ShowsValue, isSome, orZero, isNumber, memberIn, membersIn, NumberAt, ShowsMember, MemberAt, claims, claimed, ShowsClaim}
 use Rattle.gather.specs.declared.spread.SpreadValue.the-variants as S
 use Rattle.gather.specs.declared.spread.Member.{Member}
 use Rattle.gather.specs.declared.spread.Member.the-variants as M
+
+-- THE CODE OF A VALUE
+coded-beyond : (s : Bool) (w : Bytes) → Valued s w false → Coding s w 0
+coded-beyond s w x = record { beyond = λ e. x; fits = λ n. absurd (n refl) }
+
+coded-in : (s : Bool) (w : Bytes) (k : ℕ) → 1 ≤ k → (x : Valued s w true) → coded (x .value) ≡ k → Coding s w k
+coded-in s w k h x e = record { beyond = λ z. absurd (omega (arith, z)); fits = λ n. (x, e) }
 
 -- THE FIRST FIELD of a charge
 module _ (w : Bytes) (r : SignedNumeral) (h : ShowsSigned 1000000 (signed w) r) where
@@ -50,17 +57,17 @@ minus-coded zero = refl
 minus-coded (suc n) = omega arith
 
 module _ (w : Bytes) (v : ℤ) (n : ℕ) (is : signed w ≡ some v) (size : natAbs v ≡ n) where
-  pub charge-low : n < 1 → Valued true w false
+  pub charge-low : n < 1 → Coding true w 0
   unfolding ranged
-  charge-low h = record { value = v; is = is; range = ap (within 1 99) size ∙ within-low 1 99 n h }
+  charge-low h = coded-beyond true w (record { value = v; is = is; range = ap (within 1 99) size ∙ within-low 1 99 n h })
 
-  pub charge-high : 99 < n → Valued true w false
+  pub charge-high : 99 < n → Coding true w 0
   unfolding ranged
-  charge-high h = record { value = v; is = is; range = ap (within 1 99) size ∙ within-high 1 99 n h }
+  charge-high h = coded-beyond true w (record { value = v; is = is; range = ap (within 1 99) size ∙ within-high 1 99 n h })
 
-  pub charge-in : (k : ℕ) → coded v ≡ k → 1 ≤ n → n ≤ 99 → ShowsValue true w (S.Coded k)
+  pub charge-in : (k : ℕ) → coded v ≡ k → 1 ≤ k → 1 ≤ n → n ≤ 99 → Coding true w k
   unfolding ranged
-  charge-in k e h g = (record { value = v; is = is; range = ap (within 1 99) size ∙ within-is 1 99 n h g }, e)
+  charge-in k e m h g = coded-in true w k m (record { value = v; is = is; range = ap (within 1 99) size ∙ within-is 1 99 n h g }) e
 
 -- and of a radical
 module _ (w : Bytes) (r : Numeral) (h : Shows 1000000 (number w) r) where
@@ -73,17 +80,17 @@ module _ (w : Bytes) (r : Numeral) (h : Shows 1000000 (number w) r) where
     unfolding natural
     radical-is = rw (sym (h .is) ∙ ap shownNumber e, _andThen_)
 
-    pub radical-low : n < 1 → Valued false w false
+    pub radical-low : n < 1 → Coding false w 0
     unfolding ranged ranging
-    radical-low g = record { value = pos n; is = radical-is; range = within-low 1 15 n g }
+    radical-low g = coded-beyond false w (record { value = pos n; is = radical-is; range = within-low 1 15 n g })
 
-    pub radical-high : 15 < n → Valued false w false
+    pub radical-high : 15 < n → Coding false w 0
     unfolding ranged ranging
-    radical-high g = record { value = pos n; is = radical-is; range = within-high 1 15 n g }
+    radical-high g = coded-beyond false w (record { value = pos n; is = radical-is; range = within-high 1 15 n g })
 
-    pub radical-in : 1 ≤ n → n ≤ 15 → ShowsValue false w (S.Coded (100 + n))
+    pub radical-in : 1 ≤ n → n ≤ 15 → Coding false w (100 + n)
     unfolding ranged ranging
-    radical-in g k = (record { value = pos n; is = radical-is; range = within-is 1 15 n g k }, refl)
+    radical-in g k = coded-in false w (100 + n) (omega arith) (record { value = pos n; is = radical-is; range = within-is 1 15 n g k }) refl
 
 -- THE NEXT FIELD
 module _ (line : Bytes) (at : ℕ) (f : Field) (h : NextField line at f) where

@@ -32,7 +32,7 @@ use Rattle.sorted.specs.Regions.{membersFrom, coded, arrived, voidOf, spreadReg
 use Rattle.sorted.specs.Shown.{ShowsAfter}
 use Rattle.sorted.specs.declared.after.RowAfter.{RowAfter}
 use Rattle.sorted.specs.declared.after.RowAfter.the-variants.{Kept, Stop}
-use Rattle.gather.specs.Members.{listOf, valueIn, Valued, ShowsValue, ValueOf, isNumber, memberIn, membersIn, claimed, ShowsClaim}
+use Rattle.gather.specs.Members.{listOf, valueIn, Valued, Coding, ShowsValue, ValueOf, isNumber, memberIn, membersIn, claimed, ShowsClaim}
 use Rattle.gather.specs.declared.spread.SpreadValue.{SpreadValue}
 use Rattle.gather.specs.declared.spread.SpreadValue.the-variants as S
 use Rattle.gather.proofs.PlaceLaws.{arrived-length, arrived-more}
@@ -289,14 +289,16 @@ module _ (s : Bool) (atoms : ℕ) (rs : List Row) (line : Bytes) (f : Field) (h 
     row-is : (w : ℤ) → valueIn s first ≡ some w → all isNumber rest ≡ true → after ≡ rowAfter (listOf s) atoms rs (some (row (membersIn rest) w 0))
     row-is w e g = after-is ∙ step-some (listOf s) atoms rs first rest (row (membersIn rest) w 0) (shape-is s first rest w (membersIn rest) e (numbers-are rest g))
 
-    pub shows-beyond : (u : List ℕ) → r ≡ S.Beyond → all isNumber rest ≡ true → ShowsAfter spreadRegion u (Stop 10) after
-    shows-beyond u e g =
-        let x : Valued s first false = subst (ShowsValue s first) e (v .shows) in
+    pub shows-beyond : (u : List ℕ) (code : ℕ) → r ≡ S.Coded code → code ≡ 0 → all isNumber rest ≡ true → ShowsAfter spreadRegion u (Stop 10) after
+    shows-beyond u code e z g =
+        let c : Coding s first code = subst (ShowsValue s first) e (v .shows) in
+        let x : Valued s first false = c .beyond z in
         subst (ShowsAfter spreadRegion u (Stop 10)) (sym (row-is (x .value) (x .is) g ∙ after-beyond (listOf s) atoms rs (row (membersIn rest) (x .value) 0) (x .range))) refl
 
-    pub shows-added : (code : ℕ) → r ≡ S.Coded code → all isNumber rest ≡ true → (u : List ℕ) (a : RowAfter)
+    pub shows-added : (code : ℕ) → r ≡ S.Coded code → (code ≡ 0 → ⊥) → all isNumber rest ≡ true → (u : List ℕ) (a : RowAfter)
         → ((w : ℤ) → ranged (listOf s) w ≡ true → coded w ≡ code → ShowsAfter spreadRegion u a (rowAfter (listOf s) atoms rs (some (row (membersIn rest) w 0))))
         → ShowsAfter spreadRegion u a after
-    shows-added code e g u a k =
-        let x : ShowsValue s first (S.Coded code) = subst (ShowsValue s first) e (v .shows) in
+    shows-added code e n g u a k =
+        let c : Coding s first code = subst (ShowsValue s first) e (v .shows) in
+        let x = c .fits n in
         subst (ShowsAfter spreadRegion u a) (sym (row-is (x .0 .value) (x .0 .is) g)) (k (x .0 .value) (x .0 .range) (x .1))

@@ -33,10 +33,14 @@ pub record Valued (s : Bool) (w : Bytes) (fits : Bool) : Type 0 where
   pub is : valueIn s w ≡ some value
   pub range : ranged (listOf s) value ≡ fits
 
+-- its code: 0 for a value beyond the range
+pub record Coding (s : Bool) (w : Bytes) (k : ℕ) : Type 0 where
+  pub beyond : k ≡ 0 → Valued s w false
+  pub fits : (k ≡ 0 → ⊥) → (x : Valued s w true) × (coded (x .value) ≡ k)
+
 abbrev pub ShowsValue : (signed : Bool) → Bytes → SpreadValue → Type 0
 ShowsValue s w S.Wrong = valueIn s w ≡ none
-ShowsValue s w S.Beyond = Valued s w false
-ShowsValue s w (S.Coded k) = (x : Valued s w true) × (coded (x .value) ≡ k)
+ShowsValue s w (S.Coded k) = Coding s w k
 
 pub record ValueOf (s : Bool) (w : Bytes) (r : SpreadValue) : Type 0 where
   pub shows : ShowsValue s w r

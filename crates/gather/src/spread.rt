@@ -20,10 +20,9 @@ use scan::numbers::Numeral;
 use scan::numbers::SignedNumeral;
 use sorted::after::RowAfter;
 
-// The first field: a value in its range, as value + 100; a value beyond it; no number.
+// The first field: its value as value + 100, 0 where it is beyond its range; or no number.
 pub enum SpreadValue {
     Coded(u32),
-    Beyond,
     Wrong,
 }
 
@@ -42,19 +41,19 @@ fn charge_of(word: &[u8]) -> SpreadValue
         SignedNumeral::Wrong => SpreadValue::Wrong,
         SignedNumeral::Plus(n) => {
             if n < 1 {
-                return SpreadValue::Beyond;
+                return SpreadValue::Coded(0);
             }
             if 99 < n {
-                return SpreadValue::Beyond;
+                return SpreadValue::Coded(0);
             }
             SpreadValue::Coded(100 + n)
         }
         SignedNumeral::Minus(n) => {
             if n < 1 {
-                return SpreadValue::Beyond;
+                return SpreadValue::Coded(0);
             }
             if 99 < n {
-                return SpreadValue::Beyond;
+                return SpreadValue::Coded(0);
             }
             SpreadValue::Coded(100 - n)
         }
@@ -65,18 +64,16 @@ fn charge_of(word: &[u8]) -> SpreadValue
 fn radical_of(word: &[u8]) -> SpreadValue
     ensures { λ r. ⌜ ShowsValue false (now (word .entry)) r ⌝ }
 {
-    match scan::numbers::number(word) {
-        Numeral::Wrong => SpreadValue::Wrong,
-        Numeral::Value(n) => {
-            if n < 1 {
-                return SpreadValue::Beyond;
-            }
-            if 15 < n {
-                return SpreadValue::Beyond;
-            }
-            SpreadValue::Coded(100 + n)
-        }
+    let Numeral::Value(n) = scan::numbers::number(word) else {
+        return SpreadValue::Wrong;
+    };
+    if n < 1 {
+        return SpreadValue::Coded(0);
     }
+    if 15 < n {
+        return SpreadValue::Coded(0);
+    }
+    SpreadValue::Coded(100 + n)
 }
 
 // The value that the row's first field says.
@@ -100,10 +97,10 @@ fn member_at(line: &[u8], at: usize) -> Member
     if from == to {
         return Member::None;
     }
-    match scan::numbers::number(&line[from..to]) {
-        Numeral::Wrong => Member::Wrong,
-        Numeral::Value(n) => Member::Number(n, to),
-    }
+    let Numeral::Value(n) = scan::numbers::number(&line[from..to]) else {
+        return Member::Wrong;
+    };
+    Member::Number(n, to)
 }
 
 // Whether each field from `at` on is an unsigned number.
@@ -245,13 +242,14 @@ pub fn spread_line(
     if from == to {
         return RowAfter::Kept(count);
     }
-    let value = value_of(&line[from..to], signed);
+    let SpreadValue::Coded(code) = value_of(&line[from..to], signed) else {
+        return RowAfter::Stop(9);
+    };
     if !all_numbers(line, to) {
         return RowAfter::Stop(9);
     }
-    match value {
-        SpreadValue::Wrong => RowAfter::Stop(9),
-        SpreadValue::Beyond => RowAfter::Stop(10),
-        SpreadValue::Coded(code) => add_row(line, to, code, atoms, count, region),
+    if code == 0 {
+        return RowAfter::Stop(10);
     }
+    add_row(line, to, code, atoms, count, region)
 }

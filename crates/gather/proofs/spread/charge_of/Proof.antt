@@ -1,5 +1,6 @@
 -- `gather::spread::charge_of` meets its contract. Assumes nothing.
 use mathlib.Core.Path.{refl}
+use native.Mathlib.Omega.{arith}
 use Rattle.gather.proofs.MemberLaws.{charge-wrong, charge-plus, charge-minus, minus-size, minus-coded, charge-low, charge-high, charge-in}
 use borrow.Author.Needs.{needs}
 use Rattle.gather.proofs.spread.charge_of.Statement.{statement}
@@ -39,10 +40,10 @@ returns-5 : tie.Need-returns-5
 returns-5 c = charge-wrong _ _ (c .before .before .signed .ensures) (c .enum-told .given .1)
 
 returns-6 : tie.Need-returns-6
-returns-6 c = charge-in _ _ _ (charge-plus _ _ (c .before .before .before .before .before .signed .ensures) _ (c .before .before .before .n .given .1)) refl _ refl (c .before .if1 .left) (c .if2 .left)
+returns-6 c = charge-in _ _ _ (charge-plus _ _ (c .before .before .before .before .before .signed .ensures) _ (c .before .before .before .n .given .1)) refl _ refl (omega arith) (c .before .if1 .left) (c .if2 .left)
 
 returns-7 : tie.Need-returns-7
-returns-7 c = charge-in _ _ _ (charge-minus _ _ (c .before .before .before .before .before .signed .ensures) _ (c .before .before .before .n2 .given .1)) (minus-size _) _ (minus-coded _) (c .before .if3 .left) (c .if4 .left)
+returns-7 c = charge-in _ _ _ (charge-minus _ _ (c .before .before .before .before .before .signed .ensures) _ (c .before .before .before .n2 .given .1)) (minus-size _) _ (minus-coded _) (omega arith) (c .before .if3 .left) (c .if4 .left)
 
 pub charge-of-spec : {M : Type 1} → statement M
 charge-of-spec =

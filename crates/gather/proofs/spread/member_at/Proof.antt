@@ -22,11 +22,11 @@ part-number-end c = c .before .next-field .ensures .high (c .before .before .bef
 number-requires : tie.Need-number-requires
 number-requires c κs = search needs
 
-enum-told : tie.Need-enum-told
-enum-told c = search needs
-
 enum-known-n : tie.Need-enum-known-n
 enum-known-n c = search needs
+
+enum-told : tie.Need-enum-told
+enum-told c = search needs
 
 returns-2 : tie.Need-returns-2
 returns-2 c = member-wrong _ _ _ (c .before .before .before .before .before .next-field .ensures) (c .before .before .before .before .if1 .left) _ (c .before .before .number .ensures) (c .enum-told .given .1)
@@ -44,7 +44,7 @@ member-at-spec =
     part-number-start
     part-number-end
     number-requires
-    enum-told
     enum-known-n
+    enum-told
     returns-2
     returns-3)

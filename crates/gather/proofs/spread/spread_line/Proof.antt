@@ -25,35 +25,32 @@ part-value-of-end c = c .before .next-field .ensures .high (omega arith)
 value-of-requires : tie.Need-value-of-requires
 value-of-requires c κs = search needs
 
-all-numbers-requires : tie.Need-all-numbers-requires
-all-numbers-requires c κs = c .before .before .before .next-field .ensures .high (omega arith)
-
-returns-2 : tie.Need-returns-2
-returns-2 c = (c .before .before .before .before .before .before .before .before .pre .0, stop-few 9, λ rs len fits is. shows-unnumbered _ _ rs _ _ (c .before .before .before .before .before .next-field .ensures) (c .before .before .before .before .if1 .left) _ (c .before .before .value-of .ensures) _ (sym (c .before .all-numbers .ensures) ∙ not-true _ (c .if2 .taken)))
+enum-known-code : tie.Need-enum-known-code
+enum-known-code c = search needs
 
 enum-told : tie.Need-enum-told
 enum-told c = search needs
 
-enum-told-2 : tie.Need-enum-told-2
-enum-told-2 c = search needs
+returns-2 : tie.Need-returns-2
+returns-2 c = (c .before .before .before .before .before .before .before .before .pre .0, stop-few 9, λ rs len fits is. shows-wrong _ _ rs _ _ (c .before .before .before .before .before .next-field .ensures) (c .before .before .before .before .if1 .left) _ (c .before .before .value-of .ensures) _ (c .enum-told .given .1))
 
-enum-known-value : tie.Need-enum-known-value
-enum-known-value c = search needs
-
-add-row-requires : tie.Need-add-row-requires
-add-row-requires c κs = (c .before .before .before .before .before .before .before .before .before .before .before .before .pre .0, c .before .before .before .before .before .before .before .before .before .next-field .ensures .high (omega arith), c .before .before .before .before .before .before .before .before .before .before .before .before .pre .1, c .before .before .before .before .before .before .before .before .before .before .before .before .pre .2)
+all-numbers-requires : tie.Need-all-numbers-requires
+all-numbers-requires c κs = c .before .before .before .before .before .before .next-field .ensures .high (omega arith)
 
 returns-3 : tie.Need-returns-3
-returns-3 c = (c .before .before .before .before .before .before .before .before .before .before .pre .0, stop-few 9, λ rs len fits is. shows-wrong _ _ rs _ _ (c .before .before .before .before .before .before .before .next-field .ensures) (c .before .before .before .before .before .before .if1 .left) _ (c .before .before .before .before .value-of .ensures) _ (c .enum-told .given .1))
+returns-3 c = (c .before .before .before .before .before .before .before .before .before .before .before .pre .0, stop-few 9, λ rs len fits is. shows-unnumbered _ _ rs _ _ (c .before .before .before .before .before .before .before .before .next-field .ensures) (c .before .before .before .before .before .before .before .if1 .left) _ (c .before .before .before .before .before .value-of .ensures) _ (sym (c .before .all-numbers .ensures) ∙ not-true _ (c .if2 .taken)))
 
 returns-4 : tie.Need-returns-4
-returns-4 c = (c .before .before .before .before .before .before .before .before .before .before .pre .0, stop-few 10, λ rs len fits is. shows-beyond _ _ rs _ _ (c .before .before .before .before .before .before .before .next-field .ensures) (c .before .before .before .before .before .before .if1 .left) _ (c .before .before .before .before .value-of .ensures) _ (c .enum-told2 .given .1) (sym (c .before .before .before .all-numbers .ensures) ∙ not-false _ (c .before .before .if2 .left)))
+returns-4 c = (c .before .before .before .before .before .before .before .before .before .before .before .before .pre .0, stop-few 10, λ rs len fits is. shows-beyond _ _ rs _ _ (c .before .before .before .before .before .before .before .before .before .next-field .ensures) (c .before .before .before .before .before .before .before .before .if1 .left) _ (c .before .before .before .before .before .before .value-of .ensures) _ _ (c .before .before .before .before .code .given .1) (c .if3 .taken) (sym (c .before .before .all-numbers .ensures) ∙ not-false _ (c .before .if2 .left)))
+
+add-row-requires : tie.Need-add-row-requires
+add-row-requires c κs = (c .before .before .before .before .before .before .before .before .before .before .before .before .before .pre .0, c .before .before .before .before .before .before .before .before .before .before .next-field .ensures .high (omega arith), c .before .before .before .before .before .before .before .before .before .before .before .before .before .pre .1, c .before .before .before .before .before .before .before .before .before .before .before .before .before .pre .2)
 
 same-length : tie.Need-same-length
 same-length c = search needs
 
 returns-5 : tie.Need-returns-5
-returns-5 c = (c .before .before .add-row .ensures .0, c .before .before .add-row .ensures .1, λ rs len fits is. shows-added _ _ rs _ _ (c .before .before .before .before .before .before .before .before .before .before .before .before .next-field .ensures) (c .before .before .before .before .before .before .before .before .before .before .before .if1 .left) _ (c .before .before .before .before .before .before .before .before .before .value-of .ensures) _ (c .before .before .before .before .before .value .given .1) (sym (c .before .before .before .before .before .before .before .before .all-numbers .ensures) ∙ not-false _ (c .before .before .before .before .before .before .before .if2 .left)) _ _ (λ w range code. c .before .before .add-row .ensures .2 (c .before .before .before .before .before .before .before .before .before .before .before .before .before .before .before .args .signed) w rs range code len is))
+returns-5 c = (c .before .before .add-row .ensures .0, c .before .before .add-row .ensures .1, λ rs len fits is. shows-added _ _ rs _ _ (c .before .before .before .before .before .before .before .before .before .before .before .before .before .next-field .ensures) (c .before .before .before .before .before .before .before .before .before .before .before .before .if1 .left) _ (c .before .before .before .before .before .before .before .before .before .before .value-of .ensures) _ (c .before .before .before .before .before .before .before .before .code .given .1) (c .before .before .before .before .if3 .left) (sym (c .before .before .before .before .before .before .all-numbers .ensures) ∙ not-false _ (c .before .before .before .before .before .if2 .left)) _ _ (λ w range code. c .before .before .add-row .ensures .2 (c .before .before .before .before .before .before .before .before .before .before .before .before .before .before .before .before .args .signed) w rs range code len is))
 
 pub spread-line-spec : {M : Type 1} → statement M
 spread-line-spec =
@@ -65,13 +62,12 @@ spread-line-spec =
     part-value-of-start
     part-value-of-end
     value-of-requires
-    all-numbers-requires
-    returns-2
+    enum-known-code
     enum-told
-    enum-told-2
-    enum-known-value
-    add-row-requires
+    returns-2
+    all-numbers-requires
     returns-3
     returns-4
+    add-row-requires
     same-length
     returns-5)
