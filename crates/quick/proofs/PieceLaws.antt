@@ -1,15 +1,15 @@
 -- The pieces of a quick row, at places of the block. Document 01, "Lines and labels" and "Rows". Assumes nothing.
-use Prim.Native.Nat.{ℕ, _+_, _-_, _*_, _≤_, _<_}
+use Prim.Native.Nat.{ℕ, zero, suc, _+_, _-_, _*_, _/_, _%_, _^_, _≤_, _<_}
 use mathlib.Core.Path.{_≡_, refl, sym, ap, _∙_}
 use mathlib.Core.Bool.{Bool, true, false, _&&_}
 use mathlib.Core.Option.{Option, none, some}
-use mathlib.Core.List.{List, [], _∷_, _++_}
+use mathlib.Core.List.{[], _∷_, _++_}
 use native.Mathlib.Omega.{arith}
 use native.Mathlib.Numerals.{add-one}
 use lib.ListN.{length, getD, drop}
 use lib.Seq.{drop-cons}
 use lib.Dec.{eqb, ltb}
-use borrow.Author.Tests.{eqb-true, ltb-true}
+use borrow.Author.Tests.{eqb-true, eqb-false, ltb-true}
 use Rattle.lists.specs.Lists.{all, sameBy}
 use Rattle.lists.proofs.Bools.{and-parts}
 use Rattle.lists.proofs.ListLaws.{all-nil, all-both, all-imply}
@@ -18,7 +18,6 @@ use Rattle.format.specs.Rows.{digit, number, placeIn}
 use Rattle.format.proofs.ByteLaws.{within-is, digit-bounds}
 use Rattle.format.proofs.NumberLaws.{value, number-is, digits-of, from-digits, digit-printed}
 use Rattle.quick.specs.Pieces.{Word, later, NumberIs, ShowsNumber, EndIs, ShowsEnd, KindIs, TailIs, ShowsTail}
-use Rattle.rows.proofs.TableRule.{every, at-each}
 use Rattle.quick.specs.declared.parts.NumberAt.{NumberAt}
 use Rattle.quick.specs.declared.parts.NumberAt.the-variants as N
 use Rattle.quick.specs.declared.parts.EndAt.{EndAt}
@@ -136,23 +135,33 @@ module _ (s : Bytes) (at next : ℕ) where
         high = omega (arith, h .high);
       }
 
--- THE KIND
-unfoldable pub kinds : List ℕ
-kinds = 5 ∷ 0 ∷ 0 ∷ 2 ∷ 0 ∷ 0 ∷ 0 ∷ 0 ∷ 0 ∷ 0 ∷ 0 ∷ 0 ∷ 0 ∷ 0 ∷ 0 ∷ 0 ∷ 4 ∷ 0 ∷ 1 ∷ 3 ∷ 0 ∷ 0 ∷ 0 ∷ 0 ∷ 0 ∷ 0 ∷ []
+-- THE KIND, three bits a letter
+abbrev pub kindAt : (k : ℕ) → ℕ
+kindAt k = 451485862643893253 / 2 ^ (3 * k) % 8
 
 unfoldable kindOf : ℕ → ℕ
 kindOf letter = elim (placeIn 1 (letter ∷ []) (bytes "SDTQA")) [ none ↦ 0 | some n ↦ n ]
 
-unfoldable right : ℕ → ℕ → Bool
-right k x = eqb x (kindOf (65 + k)) && ltb x 6
+unfoldable right : ℕ → Bool
+right k = eqb (kindAt k) (kindOf (65 + k)) && ltb (kindAt k) 6
 
-all-right : every right 0 kinds ≡ true
-unfolding every right kinds kindOf placeIn bytes sameBy
+-- whether a test passes at each number below n
+unfoldable below : (ℕ → Bool) → ℕ → Bool
+below f zero = true
+below f (suc n) = f n && below f n
+
+at-below : (f : ℕ → Bool) (n : ℕ) → below f n ≡ true → (k : ℕ) → k < n → f k ≡ true
+unfolding below
+at-below f zero h k l = absurd (omega arith)
+at-below f (suc n) h k l = go (eqb k n) refl (and-parts (f n) (below f n) h .0) (at-below f n (and-parts (f n) (below f n) h .1) k)
+  where
+    go : (t : Bool) → eqb k n ≡ t → f n ≡ true → (k < n → f k ≡ true) → f k ≡ true
+    go true e p ih = ap f (eqb-true k n e) ∙ p
+    go false e p ih = ih (omega (arith, eqb-false k n e))
+
+all-right : below right 20 ≡ true
+unfolding below right kindOf placeIn bytes sameBy
 all-right = refl
-
-kinds-long : length kinds ≡ 26
-unfolding kinds
-kinds-long = refl
 
 kind-said : (letter n : ℕ) → n ≡ kindOf letter → (n ≡ 0 → ⊥) → placeIn 1 (letter ∷ []) (bytes "SDTQA") ≡ some n
 unfolding kindOf
@@ -162,19 +171,19 @@ kind-said letter n e z = go (placeIn 1 (letter ∷ []) (bytes "SDTQA")) refl
     go none f = absurd (z (e ∙ rw (f, kindOf)))
     go (some m) f = f ∙ ap some (sym (e ∙ rw (f, kindOf)))
 
-module _ (letter : ℕ) (low : 65 ≤ letter) (high : letter ≤ 90) where
-  entry-right : (eqb (getD kinds (letter - 65) 0) (kindOf (65 + (letter - 65))) ≡ true) × (ltb (getD kinds (letter - 65) 0) 6 ≡ true)
+module _ (letter : ℕ) (low : 65 ≤ letter) (high : letter ≤ 84) where
+  entry-right : (eqb (kindAt (letter - 65)) (kindOf (65 + (letter - 65))) ≡ true) × (ltb (kindAt (letter - 65)) 6 ≡ true)
   unfolding right
-  entry-right = and-parts _ _ (at-each right kinds all-right (letter - 65) (omega (arith, kinds-long)))
+  entry-right = and-parts _ _ (at-below right 20 all-right (letter - 65) (omega arith))
 
-  pub kind-small : getD kinds (letter - 65) 0 < 6
+  pub kind-small : kindAt (letter - 65) < 6
   kind-small = ltb-true _ _ (entry-right .1)
 
-  pub kind-is : (getD kinds (letter - 65) 0 ≡ 0 → ⊥) → KindIs letter (getD kinds (letter - 65) 0)
+  pub kind-is : (kindAt (letter - 65) ≡ 0 → ⊥) → KindIs letter (kindAt (letter - 65))
   kind-is z =
       let k : 65 + (letter - 65) ≡ letter = omega arith in
       record {
-        says = kind-said letter (getD kinds (letter - 65) 0) (eqb-true _ _ (entry-right .0) ∙ ap kindOf k) z;
+        says = kind-said letter (kindAt (letter - 65)) (eqb-true _ _ (entry-right .0) ∙ ap kindOf k) z;
         seen = within-is 37 126 letter (omega arith) (omega arith);
         small = kind-small;
       }

@@ -12,35 +12,8 @@ pub enum QuickBond {
     Not,
 }
 
-// "S, D, T, Q or A": the kinds of A to Z, 0 for a letter that is none.
-const KINDS: [u8; 26] = [
-    5,
-    0,
-    0,
-    2,
-    0,
-    0,
-    0,
-    0,
-    0,
-    0,
-    0,
-    0,
-    0,
-    0,
-    0,
-    0,
-    4,
-    0,
-    1,
-    3,
-    0,
-    0,
-    0,
-    0,
-    0,
-    0,
-];
+// "S, D, T, Q or A": the kinds of A to T, three bits a letter, 0 for one that is none. One number, since a table would be laid out anew at each use.
+const KINDS: u64 = 451485862643893253;
 
 // The kind that a letter says; 0 where it says none.
 fn kind_of(letter: u8) -> u32
@@ -49,10 +22,11 @@ fn kind_of(letter: u8) -> u32
     if letter < 65 {
         return 0;
     }
-    if 90 < letter {
+    if 84 < letter {
         return 0;
     }
-    KINDS[letter as usize - 65] as u32
+    let shift = 3 * (letter as u64 - 65);
+    ((KINDS >> shift) % 8) as u32
 }
 
 // The row at a line's first byte: "two atoms and S, D, T, Q or A", one space between them and nothing else on the line. The longest is 11 bytes; one that stands so

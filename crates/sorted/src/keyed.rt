@@ -105,7 +105,8 @@ pub fn bond_joined(
     if 5 < kind {
         return RowAfter::Stop(0);
     }
-    two_atoms(atoms, count, region, 512, first, second, 256 * kind, true)
+    let payload = 256 * kind;
+    two_atoms(atoms, count, region, 512, first, second, payload, true)
 }
 
 // What a line of BONDLIST leaves of its list, `count` bonds there and `atoms` atoms listed: "two atoms and S, D, T, Q or A". The line is without its comment.

@@ -18,8 +18,8 @@ returns-3 c = (refl, same-leaves _ _, λ long few atoms. absurd (omega (arith, a
 returns-4 : tie.Need-returns-4
 returns-4 c = (refl, same-leaves _ _, λ long few atoms small. absurd (omega (arith, small)))
 
-mul-two-atoms : tie.Need-mul-two-atoms
-mul-two-atoms c = search needs
+mul-payload : tie.Need-mul-payload
+mul-payload c = search needs
 
 two-atoms-requires : tie.Need-two-atoms-requires
 two-atoms-requires c κs = search needs
@@ -38,7 +38,7 @@ bond-joined-spec =
     returns-2
     returns-3
     returns-4
-    mul-two-atoms
+    mul-payload
     two-atoms-requires
     same-length
     returns-5)
