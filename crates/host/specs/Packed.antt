@@ -7,6 +7,7 @@ use lib.Dec.{ltb}
 use Rattle.format.specs.Bytes.{Bytes, cut}
 use Rattle.format.specs.Reading.{Span, spanFrom}
 use Rattle.format.specs.Walking.{block, stray, Piece, Walked, Found, Finished, NotWalked, titleOf, packed}
+use Rattle.format.specs.Writing.{WriteResult}
 use Rattle.transfer.specs.Texts.{titleStart}
 
 -- one piece of a transfer file: 1 a block, 2 a stray run, with where it ends; 0 finished, else the refusal's number, with 0
@@ -24,3 +25,7 @@ packedSpan x = packed (x .place) (x .size)
 
 unfoldable pub packedTitle : Bytes → ℕ
 packedTitle b = elim (ltb (length b) 4294967296) [ true ↦ packedSpan (spanFrom (titleStart (cut b)) (titleOf (cut b))) | false ↦ 0 ]
+
+-- a writing: the refusal's number with 0, or 0 with the count
+abbrev pub packedWritten : WriteResult → ℕ
+packedWritten r = packed (r .number) (r .count)

@@ -3,9 +3,11 @@
 ghost use mathlib.Core.Path.{_≡_};
 ghost use Rattle.format.specs.Table.{readResult};
 ghost use Rattle.format.specs.Walking.{checkOf, packedResult, walkAt};
-ghost use Rattle.host.specs.Packed.{packedWalk, packedTitle};
+ghost use Rattle.format.specs.Writing.{writeResult};
+ghost use Rattle.host.specs.Packed.{packedWalk, packedTitle, packedWritten};
 use reader::Answer;
 use transfer::walks::Walked;
+use writer::Answer as WriteAnswer;
 
 // "one unsigned 64-bit number: refusal number times 2^32, plus the place; it judges as with a long enough table"
 #[no_mangle]
@@ -58,4 +60,18 @@ pub extern "C" fn galebonnet_name(block: &[u8]) -> u64
         return 0;
     }
     (start as u64) * 4294967296 + (end - start) as u64
+}
+
+// The refusal's number times 2^32, or the count of the bytes written, and the buffer with the one written form in front, or as it was lent. "Refusals in this order: 1;
+// 21, the table isn't sound ..; 23, the form would pass 32,768 bytes; 22, the buffer is shorter."
+#[no_mangle]
+pub extern "C" fn galebonnet_write(table: &[i32], texts: &[u8], buffer: &mut [u8]) -> u64
+    ensures answer { λ r. ⌜ r ≡ packedWritten (writeResult 103 (now (table .entry)) (now (texts .entry)) (now (buffer .entry))) ⌝ }
+    ensures written { λ r. ⌜ now (buffer .exit) ≡ writeResult 103 (now (table .entry)) (now (texts .entry)) (now (buffer .entry)) .buffer ⌝ }
+{
+    let answer = writer::write(table, texts, buffer);
+    match answer {
+        WriteAnswer::Written(count) => count as u64,
+        WriteAnswer::Refused(number) => (number as u64) * 4294967296,
+    }
 }
