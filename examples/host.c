@@ -1,13 +1,28 @@
-/* A C host over the door: the pieces of a transfer file, each block with its judgement, its atoms and its title.
+/* A C host over the door: the pieces of a transfer file, each block with its judgement, its atoms, its title and the length of its written form.
  *
  *     gcc -O2 -Iinclude examples/host.c target/staticlib/libhost.a -o target/host && target/host samples/damaged.jcs
  */
 #include <stdio.h>
 #include <stdlib.h>
+#include <string.h>
 
 #include "galebonnet.h"
 
 static uint8_t file[GALEBONNET_FILE + 1];
+
+/* The count of bytes of the written form; reading it gives the same atoms and all that comes behind them. */
+static unsigned written(const int32_t *table, const uint8_t *block, size_t length) {
+    uint8_t form[GALEBONNET_BLOCK];
+    int32_t again[GALEBONNET_TABLE];
+    uint64_t answer = galebonnet_write(table, GALEBONNET_TABLE, block, length, form, sizeof form);
+    if (answer >> 32 == GALEBONNET_LONG_FORM) /* the one refusal that a table just read can meet */
+        return 0;
+    if (answer >> 32 != GALEBONNET_ACCEPTED || galebonnet_read(form, (size_t)answer, again, GALEBONNET_TABLE) != GALEBONNET_ACCEPTED)
+        abort();
+    if (memcmp(table + GALEBONNET_ATOM(0), again + GALEBONNET_ATOM(0), sizeof again - GALEBONNET_ATOM(0) * sizeof *again) != 0)
+        abort();
+    return (unsigned)answer;
+}
 
 static void show_block(const uint8_t *block, size_t length) {
     int32_t table[GALEBONNET_TABLE];
@@ -17,7 +32,8 @@ static void show_block(const uint8_t *block, size_t length) {
     int size = name ? (int)(name & 0xffffffff) : 1;
     printf("%.*s: ", size, title);
     if (answer == GALEBONNET_ACCEPTED)
-        printf("%d atoms, %d bonds\n", (int)table[GALEBONNET_ATOM_COUNT], (int)table[GALEBONNET_BOND_COUNT]);
+        printf("%d atoms, %d bonds, written in %u bytes\n", (int)table[GALEBONNET_ATOM_COUNT], (int)table[GALEBONNET_BOND_COUNT],
+               written(table, block, length));
     else
         printf("refusal %u at %u of the block\n", (unsigned)(answer >> 32), (unsigned)(answer & 0xffffffff));
     if (galebonnet_check(block, length) != answer) /* the two always judge alike */

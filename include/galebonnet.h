@@ -1,4 +1,4 @@
-/* Galebonnet: JCAMP-CS 3.7 blocks read, checked and walked. Every function here is proved to answer as its words say, for every input.
+/* Galebonnet: JCAMP-CS 3.7 blocks read, checked, written and walked. Every function here is proved to answer as its words say, for every input.
  *
  * Link with target/staticlib/libhost.a (`rt staticlib host` writes it). The library allocates nothing, has no globals, calls nothing and is reentrant.
  *
@@ -64,6 +64,9 @@ enum galebonnet_refusal {
     GALEBONNET_FORMULA = 15,         /* formula and atoms differ */
     GALEBONNET_NO_END = 16,          /* no END line */
     GALEBONNET_AFTER_END = 17,       /* a line with a non-blank byte after END */
+    GALEBONNET_UNSOUND = 21,         /* table not sound */
+    GALEBONNET_SHORT_BUFFER = 22,    /* buffer shorter than the written form */
+    GALEBONNET_LONG_FORM = 23,       /* the written form would pass 32,768 bytes */
     GALEBONNET_LONG_FILE = 31,       /* file over 16,777,216 bytes */
     GALEBONNET_BEYOND = 32           /* place beyond the file's end */
 };
@@ -75,6 +78,15 @@ uint64_t galebonnet_check(const uint8_t *block, size_t length);
 /* Reads a block into a table. The answer is galebonnet_check's, or 1 * 2^32 where the table has under 3,856 numbers, and then it is untouched. On acceptance the
  * first 3,856 numbers are the block's table; on a refusal 2 to 17 they are 0. Numbers beyond them stay as they were. */
 uint64_t galebonnet_read(const uint8_t *block, size_t length, int32_t *table, size_t numbers);
+
+/* Writes a table in the one written form. The texts are the bytes in which the table's title, origin and owner stand: the block that was read, or any others.
+ * Answers the refusal number times 2^32, plus the count of bytes written. On success that is the count alone: the form stands at the buffer's start, and the bytes beyond
+ * it stay as they were. The refusals, tested in this order, come with count 0 and a buffer that is untouched: 1 the table has under 3,856 numbers; 21 it is not
+ * sound (no atom, or a count, range, order, clash or zero rule broken, or a text out of bounds, untrimmed, with a byte not allowed, or with `##` right after a
+ * line feed); 23 the form would pass 32,768 bytes; 22 the buffer is shorter than the form. Numbers beyond 3,856 are not looked at. A table that galebonnet_read
+ * filled is sound with the bytes of its block; a buffer of GALEBONNET_BLOCK bytes is never too short. Reading the form gives the same table but for the six numbers of
+ * the texts' places, and the same texts. */
+uint64_t galebonnet_write(const int32_t *table, size_t numbers, const uint8_t *texts, size_t texts_length, uint8_t *buffer, size_t room);
 
 /* One piece of a transfer file, from a place on. Answers the kind times 2^32, plus the piece's end: 1 a block, 2 a stray run, both from the place to the end; 0
  * finished (the place is the file's end); 31 the file is too long; 32 the place lies beyond the end; these three with end 0. Go on at the end until finished. */

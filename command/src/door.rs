@@ -4,6 +4,14 @@
 extern "C" {
     fn galebonnet_check(block: *const u8, length: usize) -> u64;
     fn galebonnet_read(block: *const u8, length: usize, table: *mut i32, numbers: usize) -> u64;
+    fn galebonnet_write(
+        table: *const i32,
+        numbers: usize,
+        texts: *const u8,
+        texts_length: usize,
+        buffer: *mut u8,
+        room: usize,
+    ) -> u64;
     fn galebonnet_walk(file: *const u8, length: usize, place: usize) -> u64;
     fn galebonnet_name(block: *const u8, length: usize) -> u64;
 }
@@ -23,6 +31,15 @@ pub fn check(block: &[u8]) -> (u32, usize) {
 pub fn read(block: &[u8], table: &mut [i32]) -> (u32, usize) {
     // SAFETY: both pairs are those of slices that do not overlap.
     apart(unsafe { galebonnet_read(block.as_ptr(), block.len(), table.as_mut_ptr(), table.len()) })
+}
+
+/// The refusal's number and the count of bytes written; on a refusal the buffer is untouched.
+pub fn write(table: &[i32], texts: &[u8], buffer: &mut [u8]) -> (u32, usize) {
+    let (numbers, length, room) = (table.len(), texts.len(), buffer.len());
+    // SAFETY: the three pairs are those of slices, and the one that is written to does not overlap the others.
+    apart(unsafe {
+        galebonnet_write(table.as_ptr(), numbers, texts.as_ptr(), length, buffer.as_mut_ptr(), room)
+    })
 }
 
 /// The kind (0 finished, 1 block, 2 stray run, 31, 32) and the end.

@@ -35,6 +35,13 @@ fn formic_acid_is_written() {
 }
 
 #[test]
+fn the_sample_is_formic_acid() {
+    let sample = |name: &str| std::fs::read_to_string(format!("../samples/{name}")).expect("a sample");
+    assert_eq!(sample("formic.jcs"), INPUT);
+    assert_eq!(sample("formic.canon"), WRITTEN);
+}
+
+#[test]
 fn the_walk_prints_four_lines() {
     let other = replaced(76, b"2 Ne").expect("the atom row");
     let file = [NEON.as_bytes(), b"junk\n", &other, b"##TITLE= a\n"].concat();

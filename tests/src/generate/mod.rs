@@ -5,6 +5,7 @@ pub mod cases;
 pub mod crowded;
 pub mod damage;
 mod damage_rows;
+pub mod extremes;
 pub mod files;
 pub mod limits;
 pub mod neighbours;
@@ -17,6 +18,7 @@ pub mod typical;
 
 pub use blocks::sound_block;
 pub use damage::damaged;
+pub use extremes::extreme_case;
 pub use files::file;
 pub use limits::limit_blocks;
 pub use random::Random;

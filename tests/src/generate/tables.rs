@@ -37,6 +37,11 @@ pub fn table_case(random: &mut Random) -> TableCase {
     if table.len() == NUMBERS && random.chance(10) {
         table.extend([7, -1, i32::MIN]);
     }
+    roomed(random, table, texts)
+}
+
+/// A buffer that is mostly long enough, often exactly so.
+pub fn roomed(random: &mut Random, table: Vec<i32>, texts: Vec<u8>) -> TableCase {
     let length = form_length(&table, &texts);
     let room = match random.below(10) {
         0..=3 => length,

@@ -19,6 +19,7 @@ fn main() {
     let rates: Vec<Vec<f64>> = files.iter().map(measured).collect();
     speeds(&files, &rates);
     ratios(&files, &rates);
+    writing(&files[..4]);
     growth();
 }
 
@@ -77,6 +78,22 @@ fn ratios(files: &[File], rates: &[Vec<f64>]) {
     for (file, rates) in files.iter().zip(rates) {
         let cells = each(&shown, |(_, over, under)| format!("{:.2}", rates[*over] / rates[*under]));
         println!("| {} | {cells} |", file.name);
+    }
+}
+
+/// Nanoseconds a block of reading and of writing what was read: both together, less the reading alone.
+fn writing(files: &[File]) {
+    const WORKS: [work::Work; 4] =
+        [work::read, work::read_and_write, work::independent_read, work::independent_read_and_write];
+    println!("\nNanoseconds a block:\n\n| file | read | write | independent write | write / read | write / independent write |");
+    println!("|---|---|---|---|---|---|");
+    for file in files {
+        let seconds = best(WORKS.len(), |column| WORKS[column](file));
+        let (read, write, independent) = (seconds[0], seconds[1] - seconds[0], seconds[3] - seconds[2]);
+        let times = each(&[read, write, independent], |seconds| {
+            format!("{:.0}", seconds / file.blocks.len() as f64 * 1e9)
+        });
+        println!("| {} | {times} | {:.2} | {:.2} |", file.name, write / read, write / independent);
     }
 }
 

@@ -54,6 +54,23 @@ pub fn independent_read(file: &File) -> usize {
     each_block(file, |block| independent::read(block, &mut table).place)
 }
 
+/// Each block read, and written from the table that it gave.
+pub fn read_and_write(file: &File) -> usize {
+    let (mut table, mut buffer) = (vec![0; 3856], vec![0; 32_768]);
+    each_block(file, |block| {
+        door::read(block, &mut table);
+        door::write(&table, block, &mut buffer).1
+    })
+}
+
+pub fn independent_read_and_write(file: &File) -> usize {
+    let (mut table, mut buffer) = (vec![0; 3856], vec![0; 32_768]);
+    each_block(file, |block| {
+        independent::read(block, &mut table);
+        independent::write(&table, block, &mut buffer).count
+    })
+}
+
 fn each_block(file: &File, mut reading: impl FnMut(&[u8]) -> usize) -> usize {
     file.blocks.iter().map(|range| reading(&file.bytes[range.clone()])).sum()
 }

@@ -20,9 +20,9 @@ pub fn compared(held: &mut Held, name: &str, block: &[u8], numbers: usize) {
     let mut wanted = Guarded::new(&vec![NUMBER; numbers], NUMBER);
     let read = door::read(lent.part(), table.part_mut());
     let answer = independent::read(block, wanted.part_mut());
-    held.occurred(answer.number);
+    held.read(answer.number);
     held.same(&format!("{name}, read"), block, read, (answer.number, answer.place));
-    held.same(&format!("{name}, table"), block, table.all, wanted.all);
+    held.same_list(&format!("{name}, table"), block, &table.all, &wanted.all);
     let check = independent::check(block);
     let wanted = ((check >> 32) as u32, (check & 0xffff_ffff) as usize);
     held.same(&format!("{name}, check"), block, door::check(lent.part()), wanted);
@@ -31,5 +31,5 @@ pub fn compared(held: &mut Held, name: &str, block: &[u8], numbers: usize) {
         None => b"stand-in",
     };
     held.same(&format!("{name}, name"), block, shown, independent::name(block, b"stand-in"));
-    held.same(&format!("{name}, the block and around it"), block, &lent.all, &before);
+    held.same_list(&format!("{name}, the block and around it"), block, &lent.all, &before);
 }

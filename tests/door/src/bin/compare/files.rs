@@ -28,7 +28,7 @@ pub fn compared(held: &mut Held, random: &mut Random, file: &[u8]) {
     for place in places {
         held.same(&format!("walk from {place}"), file, door::walk(lent.part(), place), walked(file, place));
     }
-    held.same("the file and around it", file, &lent.all, &before);
+    held.same_list("the file and around it", file, &lent.all, &before);
 }
 
 /// The longest file and one byte more, of one block and a stray run, from places within and beyond.

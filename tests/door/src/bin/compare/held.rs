@@ -11,15 +11,22 @@ const SHOWN: u64 = 20;
 pub struct Held {
     pub blocks: u64,
     pub files: u64,
+    pub tables: u64,
     compared: u64,
     differ: u64,
-    refusals: BTreeMap<u32, u64>,
+    readings: BTreeMap<u32, u64>,
+    writings: BTreeMap<u32, u64>,
 }
 
 impl Held {
-    /// Counts a refusal number that occurred.
-    pub fn occurred(&mut self, number: u32) {
-        *self.refusals.entry(number).or_default() += 1;
+    /// Counts the answer to a block.
+    pub fn read(&mut self, number: u32) {
+        *self.readings.entry(number).or_default() += 1;
+    }
+
+    /// Counts the answer to a table.
+    pub fn written(&mut self, number: u32) {
+        *self.writings.entry(number).or_default() += 1;
     }
 
     /// Compares two values; what they are is only spelt where they differ.
@@ -43,19 +50,35 @@ impl Held {
         }
     }
 
+    /// Compares two lists; the first place where they differ is told.
+    pub fn same_list<Value: PartialEq + Debug>(
+        &mut self,
+        what: &str,
+        input: &[u8],
+        proved: &[Value],
+        independent: &[Value],
+    ) {
+        if proved == independent {
+            self.compared += 1;
+            return;
+        }
+        let at = proved.iter().zip(independent).take_while(|(one, other)| one == other).count();
+        let what = format!("{what}, first at {at}");
+        self.same(&what, input, (proved.len(), proved.get(at)), (independent.len(), independent.get(at)));
+    }
+
     /// Prints the counts and the closing line; the status.
     pub fn report(&self, seed: u64) -> i32 {
-        let refusals: Vec<String> =
-            self.refusals.iter().map(|(number, times)| format!("{number} x{times}")).collect();
-        println!(
-            "{} blocks, {} files, seed {seed}; answers to blocks: {}",
-            self.blocks,
-            self.files,
-            refusals.join(" ")
-        );
+        println!("{} blocks, {} files, {} tables, seed {seed}", self.blocks, self.files, self.tables);
+        println!("answers to blocks: {}", shown(&self.readings));
+        println!("answers to tables: {}", shown(&self.writings));
         println!("compare: {} passed, {} failed", self.compared - self.differ, self.differ);
         i32::from(self.differ > 0)
     }
+}
+
+fn shown(answers: &BTreeMap<u32, u64>) -> String {
+    answers.iter().map(|(number, times)| format!("{number} x{times}")).collect::<Vec<String>>().join(" ")
 }
 
 /// How many elements stand before and behind a lent part.
