@@ -11,6 +11,7 @@ use borrow.Author.Tests.{lt-ltb, le-ltb}
 use Rattle.format.specs.Bytes.{Bytes, cut}
 use Rattle.format.specs.Reading.{spanFrom}
 use Rattle.format.specs.Table.{ReadResult, readResult}
+use Rattle.format.specs.Writing.{WriteResult}
 use Rattle.format.specs.Walking.{walkAt, titleOf, packed, packedResult}
 use Rattle.reader.specs.declared.Answer.{Answer}
 use Rattle.reader.specs.Answers.{shownRead}
@@ -19,7 +20,9 @@ use Rattle.transfer.specs.declared.walks.Walked.{Walked}
 use Rattle.transfer.specs.Shown.{shown}
 use Rattle.transfer.specs.Texts.{titleStart, Titled}
 use Rattle.transfer.proofs.NameLaws.{title-size}
-use Rattle.host.specs.Packed.{packedWalk, packedSpan, packedTitle}
+use Rattle.writer.specs.declared.Answer.{Answer as Written}
+use Rattle.writer.specs.Answers.{shown as shownWrite}
+use Rattle.host.specs.Packed.{packedWalk, packedSpan, packedTitle, packedWritten}
 
 -- the walk's answer, from the variant it is
 pub walk-packed : (s : Bytes) (place : ℕ) (r k : Walked) → shown r ≡ walkAt s place → r ≡ k → packedWalk (shown k) ≡ packedWalk (walkAt s place)
@@ -32,6 +35,17 @@ module _ (x : ReadResult) (r k : Answer) (t : List ℤ) (h : shownRead r t ≡ x
 
   pub read-table : shownRead k t .table ≡ x .table
   read-table = ap (λ (y : ReadResult). y .table) (ap (λ (a : Answer). shownRead a t) (sym e) ∙ h)
+
+-- a writing's answer, from the variant it is, and the buffer after it
+module _ (x : WriteResult) (r k : Written) (b : Bytes) (h : shownWrite r b ≡ x) (e : r ≡ k) where
+  written-is : shownWrite k b ≡ x
+  written-is = ap (λ (a : Written). shownWrite a b) (sym e) ∙ h
+
+  pub written-packed : packedWritten (shownWrite k b) ≡ packedWritten x
+  written-packed = ap packedWritten written-is
+
+  pub written-buffer : shownWrite k b .buffer ≡ x .buffer
+  written-buffer = ap (λ (y : WriteResult). y .buffer) written-is
 
 -- a title of some bytes
 span-some : (p : ℕ) (t : Bytes) → 0 < length t → packedSpan (spanFrom p t) ≡ packed p (length t)
