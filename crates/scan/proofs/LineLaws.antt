@@ -2,7 +2,6 @@
 use Prim.Native.Nat.{ℕ, suc, _+_, _≤_, _<_}
 use mathlib.Core.Path.{_≡_, sym, ap, _∙_}
 use mathlib.Core.Bool.{Bool, true, false, _&&_}
-use mathlib.Core.List.{[], _∷_}
 use native.Mathlib.Nat.{add-zero}
 use native.Mathlib.Numerals.{add-one}
 use native.Mathlib.Omega.{arith}
@@ -10,13 +9,12 @@ use lib.ListN.{length, getD, take, drop, length-drop, drop-of-length-le}
 use lib.Seq.{drop-cons}
 use borrow.Author.Tests.{eq-eqb, ne-eqb}
 use Rattle.lists.proofs.Bools.{and-left-false, and-right-false}
-use Rattle.format.specs.Bytes.{Bytes, blank, gap, allowed, lineLen, headIs, dollar, strip}
-use Rattle.lists.specs.Lists.{span, all}
-use Rattle.lists.proofs.ListLaws.{all-nil, all-in, all-out, all-both, span-le, span-within}
-use Rattle.format.proofs.CutLaws.{len-hit, len-miss, lineLen-le, lineLen-pos}
+use Rattle.format.specs.Bytes.{Bytes, lineLen, headIs, dollar, strip}
+use Rattle.lists.specs.Lists.{span}
+use Rattle.lists.proofs.ListLaws.{span-le, span-within}
+use Rattle.format.proofs.CutLaws.{lineLen-le, lineLen-pos}
 use Rattle.format.proofs.ByteLaws.{strip-two, strip-on, strip-take, strip-le}
 use Rattle.scan.specs.Cuts.{LineEnd, RunEnd, comment, Uncommented}
-use Rattle.scan.specs.Looks.{lineFrom, CleanEnd}
 
 -- THE LINE'S END
 pub ends : (s : Bytes) (at r : ℕ) → r ≡ at + lineLen (drop at s) → LineEnd s at r
@@ -60,31 +58,3 @@ module _ (s : Bytes) (i : ℕ) where
 
 pub uncomments : (s : Bytes) (r : ℕ) → r ≡ length (strip s) → Uncommented s r
 uncomments s r e = record { is = e; part = strip-take s ∙ ap (λ (n : ℕ). take n s) (sym e); high = omega (arith, strip-le s) }
-
--- A LINE OF ALLOWED BYTES, byte by byte
-module _ (s : Bytes) (i : ℕ) where
-  line-hit : i < length s → getD s i 0 ≡ 10 → lineFrom s i ≡ getD s i 0 ∷ []
-  line-hit h e = rw (drop-cons s i 0 h, len-hit (getD s i 0) (drop (suc i) s) (eq-eqb _ _ e))
-
-  line-miss : i < length s → (getD s i 0 ≡ 10 → ⊥) → lineFrom s i ≡ getD s i 0 ∷ lineFrom s (i + 1)
-  line-miss h e = rw (drop-cons s i 0 h, len-miss (getD s i 0) (drop (suc i) s) (ne-eqb _ _ e), add-one)
-
-  line-none : length s ≤ i → lineFrom s i ≡ []
-  unfolding lineLen
-  line-none h = rw (drop-of-length-le s h)
-
-  pub clean-hit : i < length s → getD s i 0 ≡ 10 → all allowed (lineFrom s i) ≡ true
-  unfolding allowed gap blank
-  clean-hit h e = ap (all allowed) (line-hit h e) ∙ all-both allowed (getD s i 0) [] (rw e) (all-nil allowed)
-
-  pub clean-wrong : i < length s → (getD s i 0 ≡ 10 → ⊥) → allowed (getD s i 0) ≡ false → all allowed (lineFrom s i) ≡ false
-  clean-wrong h e f = ap (all allowed) (line-miss h e) ∙ all-out allowed (getD s i 0) (lineFrom s (i + 1)) f
-
-  pub clean-on : i < length s → (getD s i 0 ≡ 10 → ⊥) → allowed (getD s i 0) ≡ true → all allowed (lineFrom s i) ≡ all allowed (lineFrom s (i + 1))
-  clean-on h e f = ap (all allowed) (line-miss h e) ∙ all-in allowed (getD s i 0) (lineFrom s (i + 1)) f
-
-  pub clean-end : length s ≤ i → all allowed (lineFrom s i) ≡ true
-  clean-end h = ap (all allowed) (line-none h) ∙ all-nil allowed
-
-pub clean-ends : (s : Bytes) (at r : ℕ) → r ≡ at + lineLen (drop at s) → all allowed (lineFrom s at) ≡ true → CleanEnd s at r
-clean-ends s at r e f = record { end = ends s at r e; clean = f }

@@ -1,6 +1,5 @@
 -- What the answers of this crate's functions say, in the terms of format/specs, file by file. Assumes nothing.
 pub mod Cuts
-pub mod Looks
 pub mod NextFields
 pub mod ShownNumbers
 pub mod Keys
