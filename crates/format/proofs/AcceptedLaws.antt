@@ -35,28 +35,32 @@ known-ends : (n : Bytes) → endsOver (lookup n known) ≡ true
 unfolding known all label
 known-ends n = lookup-passes endsOver n refl known refl
 
--- what a label line names is looked up among the known
-abbrev Looked : Line → Type 0
-Looked Plain = Unit {0}
-Looked Unparted = Unit {0}
-Looked (Labelled x v) = endsOver x ≡ true
+-- what a label line names is looked up among the known: it passes each test that whatever is looked up there passes
+module _ (p : Label → Bool) (passes : (n : Bytes) → p (lookup n known) ≡ true) where
+  abbrev Looked : Line → Type 0
+  Looked Plain = Unit {0}
+  Looked Unparted = Unit {0}
+  Looked (Labelled x v) = p x ≡ true
 
-parts-looked : (p : Parts) → Looked (partsLine p)
-parts-looked NoEquals = tt
-parts-looked (Parted n v) = known-ends (normal n)
+  parts-looked : (x : Parts) → Looked (partsLine x)
+  parts-looked NoEquals = tt
+  parts-looked (Parted n v) = passes (normal n)
 
-line-looked : (l : Bytes) → Looked (lineOf l)
-unfolding lineOf
-line-looked l = by (isLabel l) refl
-  where
-    by : (b : Bool) → isLabel l ≡ b → Looked (elim b [ true ↦ partsLine (parts (drop 2 l)) | false ↦ Plain ])
-    by true e = parts-looked (parts (drop 2 l))
-    by false e = tt
+  line-looked : (l : Bytes) → Looked (lineOf l)
+  unfolding lineOf
+  line-looked l = by (isLabel l)
+    where
+      by : (b : Bool) → Looked (elim b [ true ↦ partsLine (parts (drop 2 l)) | false ↦ Plain ])
+      by true = parts-looked (parts (drop 2 l))
+      by false = tt
+
+  pub label-passes : (l : Bytes) (x : Label) (v : Bytes) → lineOf l ≡ Labelled x v → p x ≡ true
+  label-passes l x v e = rw e at (line-looked l)
 
 pub label-ends : (l : Bytes) (x : Label) (v : Bytes) → lineOf l ≡ Labelled x v → over (x .holds) ≡ true → endLine l ≡ true
 unfolding endLine
 label-ends l x v e o =
-    let q : endsOver x ≡ true = rw e at (line-looked l) in
+    let q : endsOver x ≡ true = label-passes endsOver known-ends l x v e in
     let r : eqb 13 (x .code) ≡ true = rw o at q in
     rw e r
 

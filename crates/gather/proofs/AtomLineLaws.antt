@@ -31,7 +31,7 @@ use Rattle.sorted.specs.Regions.{kindCells, kindsRegion}
 use Rattle.sorted.specs.Shown.{ShowsAfter}
 use Rattle.sorted.specs.declared.after.RowAfter.{RowAfter}
 use Rattle.sorted.specs.declared.after.RowAfter.the-variants.{Kept, Stop}
-use Rattle.sorted.proofs.IndexLaws.{all-every}
+use Rattle.lists.proofs.IndexLaws.{all-every}
 
 -- THREE STORES, one behind the other
 pub stored-three : (t : List ℕ) (at a b c : ℕ) → set (set (set t at a) (at + 1) b) (at + 2) c ≡ sets t at (a ∷ b ∷ c ∷ [])

@@ -4,6 +4,7 @@ pub mod ListLaws
 pub mod PairLaws
 pub mod PartLaws
 pub mod SortLaws
+pub mod IndexLaws
 pub mod LexLaws
 pub mod FoldLaws
 pub mod RegionLaws

@@ -23,7 +23,7 @@ use Rattle.format.specs.Table.{rowWith, atomCells, rowCells, rowsPart, width}
 use Rattle.format.proofs.ByteLaws.{within-true}
 use Rattle.format.proofs.RowLaws.{atom-fine}
 use Rattle.sorted.specs.Regions.{kindCells, kindsRegion, memberOf, membersFrom, arrived, voidOf, coded, spreadRegion, Fits}
-use Rattle.sorted.proofs.IndexLaws.{all-every}
+use Rattle.lists.proofs.IndexLaws.{all-every}
 use Rattle.sorted.proofs.FitLaws.{row-fits}
 use Rattle.gather.proofs.SpreadLaws.{members-at, members-length, region-is}
 use Rattle.publish.specs.Published.{signedOf, copied, valueOf, valueOut, numberIn, atomOut, gathered, atomsOut, Renumbers}

@@ -11,13 +11,13 @@ use borrow.Author.Tests.{eq-eqb, ne-eqb}
 use Rattle.lists.specs.Lists.{isNil, all, any, filled, flat}
 use Rattle.lists.specs.Order.{sort}
 use Rattle.lists.proofs.ListLaws.{all-nil, all-both}
-use Rattle.format.specs.Bytes.{Bytes, cut, lineLen, isLabel}
-use Rattle.format.specs.Labels.{ListOf, Bonds, Charges, Radicals, Centres, Pairs, Label, label, known, lookup, normal, Parts, NoEquals, Parted, parts, partsLine, Line, Plain, Unparted, Labelled, lineOf}
+use Rattle.format.specs.Bytes.{Bytes, cut, lineLen}
+use Rattle.format.specs.Labels.{ListOf, Bonds, Charges, Radicals, Centres, Pairs, Label, label, known, lookup}
 use Rattle.format.specs.Formula.{frun, formulaShape}
 use Rattle.format.specs.Structure.{rowsOf, most, atomOk}
 use Rattle.format.specs.Reading.{Rules, State, noted, past, over, lineStep, Refused, ending, readLines, start}
 use Rattle.format.specs.Reading.{Go as going, Stop as stopping, Turn as Turned}
-use Rattle.format.proofs.AcceptedLaws.{lookup-passes}
+use Rattle.format.proofs.AcceptedLaws.{lookup-passes, label-passes}
 use Rattle.format.proofs.CutLaws.{cut-at, cut-nil}
 use Rattle.format.proofs.ReadingLaws.{read-go, read-stop, read-end, Went, further, started, step-went}
 use Rattle.scan.specs.Cuts.{LineEnd}
@@ -98,23 +98,6 @@ known-low : (n : Bytes) → lowLabel (lookup n known) ≡ true
 unfolding known all label
 known-low n = lookup-passes lowLabel n refl known refl
 
-abbrev Looked : Line → Type 0
-Looked Plain = Unit {0}
-Looked Unparted = Unit {0}
-Looked (Labelled x v) = lowLabel x ≡ true
-
-parts-looked : (p : Parts) → Looked (partsLine p)
-parts-looked NoEquals = tt
-parts-looked (Parted n v) = known-low (normal n)
-
-line-looked : (l : Bytes) → Looked (lineOf l)
-unfolding lineOf
-line-looked l = by (isLabel l)
-  where
-    by : (b : Bool) → Looked (elim b [ true ↦ partsLine (parts (drop 2 l)) | false ↦ Plain ])
-    by true = parts-looked (parts (drop 2 l))
-    by false = tt
-
 noted-begun : (c : ℕ) (x : Label) (seen : List Label) → (eqb c 0 || ltb 0 (x .low)) ≡ true → all (λ (y : Label). ltb 0 (y .low)) seen ≡ true → all (λ (y : Label). ltb 0 (y .low)) (noted c x seen) ≡ true
 noted-begun c x seen h a = go (eqb c 0) h
   where
@@ -127,7 +110,7 @@ step-begun u st l next e h = by (step-went u st l next e)
   where
     by : Went u st l next → begun next ≡ true
     by (further f k) = ap (all (λ (y : Label). ltb 0 (y .low))) (k .seen) ∙ h
-    by (started x v f o k) = let q : lowLabel x ≡ true = rw f at (line-looked l) in ap (all (λ (y : Label). ltb 0 (y .low))) (k .seen) ∙ noted-begun (x .code) x (st .seen) q h
+    by (started x v f o k) = let q : lowLabel x ≡ true = label-passes lowLabel known-low l x v f in ap (all (λ (y : Label). ltb 0 (y .low))) (k .seen) ∙ noted-begun (x .code) x (st .seen) q h
 
 -- BETWEEN LINES
 pub record Going (u : Given) (block : Bytes) (at : ℕ) (p : Progress) (t : List ℕ) : Type 0 where

@@ -24,7 +24,7 @@ use Rattle.sorted.specs.Regions.{keyOf, payloadOf, keyedRegion, Fits}
 use Rattle.sorted.specs.Keyed.{keyed, drops, keyAt, KeysAscend, Between, withRow, JoinShows, KeptWithin, StopLeaves}
 use Rattle.sorted.specs.declared.after.RowAfter.{RowAfter}
 use Rattle.sorted.specs.declared.after.RowAfter.the-variants.{Kept, Stop}
-use Rattle.sorted.proofs.IndexLaws.{any-index, any-nowhere, span-index}
+use Rattle.lists.proofs.IndexLaws.{any-index, any-nowhere, span-index}
 use Rattle.sorted.proofs.KeyLaws.{repeats-payload, repeats-never}
 use Rattle.sorted.proofs.RegionRows.{noRow, sortedAt, fine-at, payload-at, keys-ascend, meets-at, before-at, region-more}
 

@@ -4,7 +4,6 @@ pub mod FitLaws
 pub mod KeyLaws
 pub mod SearchLaws
 pub mod GapLaws
-pub mod IndexLaws
 pub mod RegionRows
 pub mod JoinLaws
 pub mod KeyedLaws

@@ -23,7 +23,7 @@ use Rattle.format.specs.Structure.{most, meets, rowBefore, rowOk}
 use Rattle.format.proofs.OrderLaws.{row-strict, rows-apart}
 use Rattle.sorted.specs.Regions.{keyOf, payloadOf, keyedCells, keyedRegion, Fits}
 use Rattle.sorted.specs.Keyed.{keyed, keyAt, KeysAscend, withRow}
-use Rattle.sorted.proofs.IndexLaws.{ascends-at, all-every}
+use Rattle.lists.proofs.IndexLaws.{ascends-at, all-every}
 use Rattle.sorted.proofs.KeyLaws.{before-key, meets-key}
 use Rattle.sorted.proofs.GapLaws.{row-between}
 

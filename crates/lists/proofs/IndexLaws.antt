@@ -1,15 +1,15 @@
 -- Tests and order told member by member, at an index: one that passes, none that passes, where a run ends, an earlier member before a later one. Over any
--- element. Serves the laws of rows in regions. Assumes nothing.
+-- element. Assumes nothing.
 use Prim.Native.Nat.{ℕ, zero, suc, _≤_, _<_}
 use mathlib.Core.Path.{_≡_, refl, ap, _∙_}
 use mathlib.Core.Bool.{Bool, true, false}
 use mathlib.Core.List.{List, [], _∷_}
 use native.Mathlib.Omega.{arith}
 use lib.ListN.{length, getD}
 use Rattle.lists.specs.Lists.{all, any, span}
 use Rattle.lists.specs.Order.{ascends, Strict}
 use Rattle.lists.proofs.ListLaws.{all-nil, all-both, all-at, any-nil, any-hit, any-later, any-neither, span-nil, in-cons, out-cons}
 use Rattle.lists.proofs.SortLaws.{ascends-parts, ascends-first}
 
 module _ {A : Type 0} (p : A → Bool) (d : A) where
   -- one that passes
