@@ -1,9 +1,9 @@
--- Tests and order told member by member, at an index: one that passes, none that passes, where a run ends, an earlier member before a later one. Over any
--- element. Assumes nothing.
+-- Tests, order and maps told member by member, at an index: one that passes, none that passes, where a run ends, an earlier member before a later one, maps that
+-- agree on the members. Over any element. Assumes nothing.
 use Prim.Native.Nat.{ℕ, zero, suc, _≤_, _<_}
-use mathlib.Core.Path.{_≡_, refl, ap, _∙_}
+use mathlib.Core.Path.{_≡_, refl, ap, ap₂, _∙_}
 use mathlib.Core.Bool.{Bool, true, false}
-use mathlib.Core.List.{List, [], _∷_}
+use mathlib.Core.List.{List, [], _∷_, map}
 use native.Mathlib.Omega.{arith}
 use lib.ListN.{length, getD}
 use Rattle.lists.specs.Lists.{all, any, span}
@@ -40,3 +40,19 @@ ascends-at before S d (x ∷ xs) (suc i) (suc j) a h k = ascends-at before S d x
 pub all-every : {A : Type 0} (xs : List A) → all (λ x. true) xs ≡ true
 all-every [] = all-nil (λ x. true)
 all-every (x ∷ xs) = all-both (λ y. true) x xs refl (all-every xs)
+
+-- MAPS
+module _ {A B : Type 0} where
+  pub map-length : (f : A → B) (xs : List A) → length (map f xs) ≡ length xs
+  map-length f [] = refl
+  map-length f (x ∷ xs) = ap suc (map-length f xs)
+
+  pub map-at : (f : A → B) (z : B) (d : A) (xs : List A) (i : ℕ) → i < length xs → getD (map f xs) i z ≡ f (getD xs i d)
+  map-at f z d [] i h = absurd (omega arith)
+  map-at f z d (x ∷ xs) zero h = refl
+  map-at f z d (x ∷ xs) (suc i) h = map-at f z d xs i (omega arith)
+
+  -- maps that agree on the members
+  pub map-on : (f g : A → B) (d : A) (xs : List A) → ((i : ℕ) → i < length xs → f (getD xs i d) ≡ g (getD xs i d)) → map f xs ≡ map g xs
+  map-on f g d [] h = refl
+  map-on f g d (x ∷ xs) h = ap₂ (λ (y : B) (ys : List B). y ∷ ys) (h 0 (omega arith)) (map-on f g d xs (λ i k. h (suc i) (omega arith)))

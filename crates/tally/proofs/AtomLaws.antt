@@ -20,7 +20,7 @@ use Rattle.format.specs.Table.{cell, countAt, atomAt, atomRecords, decode}
 use Rattle.format.proofs.TotalLaws.{share, entries-bare, entries-implied, entries-append, entries-counted}
 use Rattle.tally.specs.Ranks.{keyOf, fine}
 use Rattle.tally.specs.Gathering.{keyed, sumOf, atomNo, bare, implied, withImplied}
-use Rattle.tally.proofs.IndexLaws.{map-length, map-at}
+use Rattle.lists.proofs.IndexLaws.{map-length, map-at}
 use Rattle.tally.proofs.KeyLaws.{hydrogen-fine, atom-fine}
 use Rattle.tally.proofs.ShowLaws.{sum-nil, sum-hit, sum-miss}
 

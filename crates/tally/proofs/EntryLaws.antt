@@ -17,7 +17,7 @@ use Rattle.format.specs.Writing.{spelt, formulaBefore, formulaOf}
 use Rattle.format.proofs.TotalLaws.{isotope-refl, share, total-nil, total-cons, total-some, kinds-any, entries-bare, entries-implied, entries-counted}
 use Rattle.tally.specs.Ranks.{elementOf, keyOf, fine}
 use Rattle.tally.specs.Gathering.{inFormula, Gathered, entryOf}
-use Rattle.tally.proofs.IndexLaws.{any-index, map-length, map-at}
+use Rattle.lists.proofs.IndexLaws.{any-index, map-length, map-at}
 use Rattle.tally.proofs.KeyLaws.{atom-fine, key-back}
 use Rattle.tally.proofs.FormulaLaws.{formula-fine}
 use Rattle.tally.proofs.AtomLaws.{entries-fine}

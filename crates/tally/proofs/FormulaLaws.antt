@@ -21,7 +21,7 @@ use Rattle.format.specs.Writing.{formulaBefore}
 use Rattle.format.proofs.TotalLaws.{isotope-is, total-nil, total-hit, total-miss, kinds-nil, kinds-again, kinds-new, kinds-once}
 use Rattle.tally.specs.Ranks.{keyOf, fine}
 use Rattle.tally.specs.Gathering.{keyed, sumOf, Shows}
-use Rattle.tally.proofs.IndexLaws.{map-on}
+use Rattle.lists.proofs.IndexLaws.{map-on}
 use Rattle.tally.proofs.KeyLaws.{key-before, key-same}
 use Rattle.tally.proofs.ShowLaws.{sum-nil, sum-hit, sum-miss}
 

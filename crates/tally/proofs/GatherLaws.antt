@@ -14,7 +14,7 @@ use Rattle.format.specs.Structure.{isotopeOf, Atom, Entry, entry, entriesOf, at
 use Rattle.format.specs.Table.{countAt, decode}
 use Rattle.tally.specs.Ranks.{keyOf, keyOr, fine}
 use Rattle.tally.specs.Gathering.{inFormula, Gathers, Shows, KeysAscend, Between, AddShows, atomNo, bare, implied, withImplied}
-use Rattle.tally.proofs.IndexLaws.{map-length}
+use Rattle.lists.proofs.IndexLaws.{map-length}
 use Rattle.tally.proofs.RankLaws.{hydrogen-rank}
 use Rattle.tally.proofs.KeyLaws.{atom-fine, key-or, key-some, key-given}
 use Rattle.tally.proofs.ShowLaws.{shows-none, shows-same, shows-count}

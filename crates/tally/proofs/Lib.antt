@@ -1,5 +1,4 @@
 -- The laws that the code of this crate rests on, file by file. Assumes nothing.
-pub mod IndexLaws
 pub mod RankLaws
 pub mod KeyLaws
 pub mod ShowLaws

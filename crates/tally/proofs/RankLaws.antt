@@ -17,7 +17,7 @@ use Rattle.format.specs.Bytes.{bytes, blank, gap, consTo, fields}
 use Rattle.format.specs.Structure.{symbols}
 use Rattle.format.specs.Writing.{rank}
 use Rattle.tally.specs.Ranks.{elementBefore, down, inOrder, placeFrom, rankOf, elementOf}
-use Rattle.tally.proofs.IndexLaws.{ascends-at}
+use Rattle.lists.proofs.IndexLaws.{ascends-at}
 
 -- THE TABLES of src/ranks.rt
 unfoldable pub ranks : List ℕ

@@ -20,7 +20,7 @@ use Rattle.lists.proofs.SortLaws.{any-perm, ascends-nil, insert-place, insert-p
 use Rattle.format.specs.Structure.{Entry}
 use Rattle.tally.specs.Ranks.{keyOf}
 use Rattle.tally.specs.Gathering.{keyed, sumOf, Shows}
-use Rattle.tally.proofs.IndexLaws.{any-index, any-nowhere, span-index, ascends-at, map-length, map-at, map-on}
+use Rattle.lists.proofs.IndexLaws.{any-index, any-nowhere, span-index, ascends-at, map-length, map-at, map-on}
 
 -- SUMS, clause by clause
 module _ (k : ℕ) where
