@@ -11,6 +11,7 @@ use crate::printing::put_text;
 use crate::records::put_id;
 use crate::records::put_span;
 use cells::cell;
+use format::Table;
 
 // Every record, from the buffer's front on.
 pub fn put_form(
@@ -24,11 +25,25 @@ pub fn put_form(
     requires { ⌜ (3856 ≤ length (now table)) × (entries ≤ 257) ⌝ }
     ensures { λ r. ⌜ FormLaid (now (table .entry)) (now (bytes .entry)) entries (now (keys .entry)) (now (counts .entry)) (now (buffer .entry)) (now (buffer .exit)) r ⌝ }
 {
-    let title = put_span(buffer, 0, b"##TITLE=", table, 7, bytes);
+    let title = put_span(buffer, 0, b"##TITLE=", table, Table::FIRST_TEXT, bytes);
     let version = put_text(buffer, title, b"##JCAMP-CS= 3.7\n");
-    let origin = put_span(buffer, version, b"##ORIGIN=", table, 9, bytes);
-    let owner = put_span(buffer, origin, b"##OWNER=", table, 11, bytes);
-    let id = put_id(buffer, owner, cell(table, 6));
+    let origin = put_span(
+        buffer,
+        version,
+        b"##ORIGIN=",
+        table,
+        Table::FIRST_TEXT + 2,
+        bytes,
+    );
+    let owner = put_span(
+        buffer,
+        origin,
+        b"##OWNER=",
+        table,
+        Table::FIRST_TEXT + 4,
+        bytes,
+    );
+    let id = put_id(buffer, owner, cell(table, Table::BLOCK_ID));
     let formula = put_formula(buffer, id, keys, counts, entries);
     let label = put_text(buffer, formula, b"##ATOMLIST=\n");
     let atoms = put_atoms(buffer, label, table);

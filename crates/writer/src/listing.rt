@@ -18,6 +18,7 @@ use crate::rows::put_centre;
 use crate::rows::put_charge;
 use crate::rows::put_pair;
 use crate::rows::put_radical;
+use format::Table;
 
 // The lists that have rows.
 pub enum Listed {
@@ -32,7 +33,7 @@ pub enum Listed {
 pub fn put_atoms(buffer: &mut [u8], at: usize, table: &[i32]) -> usize
     ensures { λ r. ⌜ Laid (now (buffer .entry)) at (printAtoms 1 (decode (now (table .entry)) .atoms)) (now (buffer .exit)) r ⌝ }
 {
-    let count = count_at(table, 0, 256);
+    let count = count_at(table, Table::ATOM_COUNT, Table::ATOMS);
     let mut place = at;
     let mut i = 0;
     while i < count {
@@ -48,11 +49,11 @@ fn row_count(list: Listed, table: &[i32]) -> usize
     ensures { λ r. ⌜ (r ≡ length (rowsOf (listOf list) (decode (now (table .entry))))) × (r ≤ 512) ⌝ }
 {
     match list {
-        Listed::Bond => count_at(table, 1, 512),
-        Listed::Charge => count_at(table, 2, 64),
-        Listed::Radical => count_at(table, 3, 64),
-        Listed::Centre => count_at(table, 4, 128),
-        Listed::Pair => count_at(table, 5, 128),
+        Listed::Bond => count_at(table, Table::BOND_COUNT, Table::BONDS),
+        Listed::Charge => count_at(table, Table::CHARGE_COUNT, Table::CHARGES),
+        Listed::Radical => count_at(table, Table::RADICAL_COUNT, Table::RADICALS),
+        Listed::Centre => count_at(table, Table::CENTRE_COUNT, Table::CENTRES),
+        Listed::Pair => count_at(table, Table::PAIR_COUNT, Table::PAIRS),
     }
 }
 

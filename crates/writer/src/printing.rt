@@ -5,6 +5,7 @@ ghost use mathlib.Core.List.{[], _∷_};
 ghost use lib.ListN.{set};
 ghost use Rattle.format.specs.Writing.{digitsIn, digits, unlessZero};
 ghost use Rattle.writer.specs.Printing.{nextPlace, Laid, spaced};
+use format::Table;
 
 // A byte at its place, if the buffer has that place.
 fn ink(buffer: &mut [u8], at: usize, byte: u8)
@@ -20,10 +21,10 @@ fn ink(buffer: &mut [u8], at: usize, byte: u8)
 fn next_place(at: usize) -> usize
     ensures { λ r. ⌜ r ≡ nextPlace at ⌝ }
 {
-    if at < 32769 {
+    if at <= Table::BLOCK {
         return at + 1;
     }
-    32769
+    Table::BLOCK + 1
 }
 
 // One byte.

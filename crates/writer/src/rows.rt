@@ -17,16 +17,17 @@ use crate::printing::put_unless_zero;
 use crate::symbols::put_symbol;
 use cells::cell;
 use cells::is_negative;
+use format::Table;
 
 // A count of the table, cut to what its list holds.
-pub fn count_at(table: &[i32], at: usize, most: u32) -> usize
+pub fn count_at(table: &[i32], at: usize, most: usize) -> usize
     ensures { λ r. ⌜ (r ≡ countAt (now (table .entry)) at most) × (r ≤ most) ⌝ }
 {
-    let count = cell(table, at);
+    let count = cell(table, at) as usize;
     if count < most {
-        return count as usize;
+        return count;
     }
-    most as usize
+    most
 }
 
 // The line of an atom: "number, symbol, optional hydrogens"; "zero hydrogens .. left out".
@@ -34,7 +35,7 @@ pub fn put_atom(buffer: &mut [u8], at: usize, table: &[i32], i: usize) -> usize
     requires { ⌜ i < 256 ⌝ }
     ensures { λ r. ⌜ Laid (now (buffer .entry)) at (atomLine (now (table .entry)) i) (now (buffer .exit)) r ⌝ }
 {
-    let place = 16 + 5 * i;
+    let place = Table::FIRST_ATOM + 5 * i;
     let element = cell(table, place);
     let mass = cell(table, place + 1);
     let hydrogens = cell(table, place + 2);
@@ -99,7 +100,7 @@ pub fn put_bond(buffer: &mut [u8], at: usize, table: &[i32], i: usize) -> usize
     requires { ⌜ (i < 512) × (3856 ≤ length (now table)) ⌝ }
     ensures { λ r. ⌜ RowLaid Bonds (now (table .entry)) i (now (buffer .entry)) at (now (buffer .exit)) r ⌝ }
 {
-    let place = 1296 + 3 * i;
+    let place = Table::FIRST_BOND + 3 * i;
     let low = cell(table, place);
     let high = cell(table, place + 1);
     let kind = letter_of(b"-SDTQA", cell(table, place + 2));
@@ -111,7 +112,7 @@ pub fn put_centre(buffer: &mut [u8], at: usize, table: &[i32], i: usize) -> usiz
     requires { ⌜ (i < 512) × (3856 ≤ length (now table)) ⌝ }
     ensures { λ r. ⌜ RowLaid Centres (now (table .entry)) i (now (buffer .entry)) at (now (buffer .exit)) r ⌝ }
 {
-    let place = 2960 + 3 * i;
+    let place = Table::FIRST_CENTRE + 3 * i;
     let atom = cell(table, place);
     let side = letter_of(b"0PM", cell(table, place + 1));
     let group = cell(table, place + 2);
@@ -123,7 +124,7 @@ pub fn put_pair(buffer: &mut [u8], at: usize, table: &[i32], i: usize) -> usize
     requires { ⌜ (i < 512) × (3856 ≤ length (now table)) ⌝ }
     ensures { λ r. ⌜ RowLaid Pairs (now (table .entry)) i (now (buffer .entry)) at (now (buffer .exit)) r ⌝ }
 {
-    let place = 3344 + 4 * i;
+    let place = Table::FIRST_PAIR + 4 * i;
     let low = cell(table, place);
     let high = cell(table, place + 1);
     let side = letter_of(b"0PM", cell(table, place + 2));
@@ -153,11 +154,18 @@ fn put_members(buffer: &mut [u8], at: usize, table: &[i32], which: usize, j: u32
     requires { ⌜ (which < 5) × (3856 ≤ length (now table)) ⌝ }
     ensures { λ r. ⌜ Laid (now (buffer .entry)) at (spaced (map digits (membersAt which j 1 (atomRecords (now (table .entry)))))) (now (buffer .exit)) r ⌝ }
 {
-    let count = count_at(table, 0, 256);
+    let count = count_at(table, Table::ATOM_COUNT, Table::ATOMS);
     let mut place = at;
     let mut i = 0;
     while i < count {
-        place = put_member(buffer, place, table, 16 + 5 * i + which, j, i as u32 + 1);
+        place = put_member(
+            buffer,
+            place,
+            table,
+            Table::FIRST_ATOM + 5 * i + which,
+            j,
+            i as u32 + 1,
+        );
         i += 1;
     }
     place
@@ -181,7 +189,7 @@ pub fn put_charge(buffer: &mut [u8], at: usize, table: &[i32], i: usize) -> usiz
     requires { ⌜ (i < 512) × (3856 ≤ length (now table)) ⌝ }
     ensures { λ r. ⌜ RowLaid Charges (now (table .entry)) i (now (buffer .entry)) at (now (buffer .exit)) r ⌝ }
 {
-    let value = put_signed(buffer, at, table, 2832 + i);
+    let value = put_signed(buffer, at, table, Table::FIRST_CHARGE + i);
     let end = put_members(buffer, value, table, 3, i as u32 + 1);
     put(buffer, end, 10)
 }
@@ -191,7 +199,7 @@ pub fn put_radical(buffer: &mut [u8], at: usize, table: &[i32], i: usize) -> usi
     requires { ⌜ (i < 512) × (3856 ≤ length (now table)) ⌝ }
     ensures { λ r. ⌜ RowLaid Radicals (now (table .entry)) i (now (buffer .entry)) at (now (buffer .exit)) r ⌝ }
 {
-    let value = put_number(buffer, at, cell(table, 2896 + i));
+    let value = put_number(buffer, at, cell(table, Table::FIRST_RADICAL + i));
     let end = put_members(buffer, value, table, 4, i as u32 + 1);
     put(buffer, end, 10)
 }

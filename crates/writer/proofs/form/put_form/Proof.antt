@@ -23,11 +23,17 @@ put-text-requires c κs = search needs
 slice-aggregate-put-span-2 : tie.Need-slice-aggregate-put-span-2
 slice-aggregate-put-span-2 c = search needs
 
+add-put-span : tie.Need-add-put-span
+add-put-span c = search needs
+
 put-span-requires-2 : tie.Need-put-span-requires-2
 put-span-requires-2 c κs = search needs
 
 slice-aggregate-put-span-3 : tie.Need-slice-aggregate-put-span-3
 slice-aggregate-put-span-3 c = search needs
+
+add-put-span-2 : tie.Need-add-put-span-2
+add-put-span-2 c = search needs
 
 put-span-requires-3 : tie.Need-put-span-requires-3
 put-span-requires-3 c κs = search needs
@@ -75,8 +81,10 @@ put-form-spec =
     slice-aggregate-put-text
     put-text-requires
     slice-aggregate-put-span-2
+    add-put-span
     put-span-requires-2
     slice-aggregate-put-span-3
+    add-put-span-2
     put-span-requires-3
     cell-requires
     put-id-requires

@@ -1,5 +1,6 @@
 -- `writer::printing::next_place` meets its contract. Assumes nothing.
 use Rattle.writer.proofs.PrintLaws.{next-in, next-out}
+use native.Mathlib.Omega.{arith}
 use borrow.Author.Needs.{needs}
 use Rattle.writer.proofs.printing.next_place.Statement.{statement}
 use Rattle.writer.proofs.printing.next_place.Tie as tie
@@ -8,10 +9,13 @@ add-result : tie.Need-add-result
 add-result c = search needs
 
 returns : tie.Need-returns
-returns c = next-in _ (c .if1 .taken)
+returns c = next-in _ (omega arith)
+
+add-result-2 : tie.Need-add-result-2
+add-result-2 c = search needs
 
 returns-2 : tie.Need-returns-2
-returns-2 c = next-out _ (c .if1 .left)
+returns-2 c = next-out (c .before .args .at) (omega arith)
 
 pub next-place-spec : {M : Type 1} → statement M
-next-place-spec = tie.close (tie.spec add-result returns returns-2)
+next-place-spec = tie.close (tie.spec add-result returns add-result-2 returns-2)

@@ -7,8 +7,8 @@ use Rattle.writer.proofs.rows.count_at.Tie as tie
 cell-requires : tie.Need-cell-requires
 cell-requires c κs = search needs
 
-cast-result : tie.Need-cast-result
-cast-result c = search needs
+cast-count : tie.Need-cast-count
+cast-count c = search needs
 
 returns : tie.Need-returns
 returns c = count-low (c .before .before .args .table .now) _ _ _ (c .before .cell .ensures) (c .if1 .taken)
@@ -17,4 +17,4 @@ returns-2 : tie.Need-returns-2
 returns-2 c = count-high (c .before .before .args .table .now) _ _ _ (c .before .cell .ensures) (c .if1 .left)
 
 pub count-at-spec : {M : Type 1} → statement M
-count-at-spec = tie.close (tie.spec cell-requires cast-result returns returns-2)
+count-at-spec = tie.close (tie.spec cell-requires cast-count returns returns-2)
