@@ -26,7 +26,8 @@ use Rattle.sorted.specs.Regions.{kindCells, kindsRegion, memberOf, membersFrom,
 use Rattle.lists.proofs.IndexLaws.{all-every}
 use Rattle.sorted.proofs.FitLaws.{row-fits}
 use Rattle.gather.proofs.SpreadLaws.{members-at, members-length, region-is}
-use Rattle.publish.specs.Published.{signedOf, copied, valueOf, valueOut, numberIn, atomOut, gathered, atomsOut, Renumbers}
+use Rattle.numbering.specs.Renumbers.{Renumbers}
+use Rattle.publish.specs.Published.{signedOf, copied, valueOf, valueOut, numberIn, atomOut, gathered, atomsOut}
 use Rattle.publish.proofs.FillLaws.{signed-small, cell-drop}
 use Rattle.publish.proofs.AtomLaws.{value-low, value-high, gathered-nil, gathered-suc}
 use Rattle.publish.proofs.RecordLaws.{natural-of}

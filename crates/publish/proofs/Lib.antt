@@ -4,10 +4,5 @@ pub mod GuardLaws
 pub mod AtomLaws
 pub mod HeaderLaws
 pub mod RecordLaws
-pub mod AppearLaws
-pub mod NumberingLaws
-pub mod RenumberLaws
-pub mod OrderingLaws
-pub mod SortedValueLaws
 pub mod AtomPartLaws
 pub mod PublishLaws

@@ -1,29 +1,27 @@
 -- The table put together from its regions, each lent in turn, and that it is the structure's: document 01, "The structure table". Assumes nothing.
-use Prim.Native.Nat.{ℕ, zero, suc, _+_, _-_, _≤_, _<_}
+use Prim.Native.Nat.{ℕ, _+_, _-_, _≤_}
 use mathlib.Core.Path.{_≡_, refl, sym, ap, _∙_}
 use mathlib.Core.Bool.{true, false}
 use mathlib.Core.List.{List, [], _∷_, _++_, map, append-assoc, append-nil}
 use native.Mathlib.Omega.{arith}
-use lib.ListN.{length, getD, take, drop, replicate, length-append, length-map, drop-of-length-le, List·getD-append}
+use lib.ListN.{length, take, drop, length-append, length-drop, length-replicate, drop-of-length-le}
 use lib.IntN.{ℤ, pos}
-use lib.Seq.{take-at, drop-at, drop-drop}
+use lib.Seq.{take-at, drop-at, drop-drop, length-take-le}
 use borrow.Rule.Slice.PartMut.{putMid}
 use Rattle.lists.specs.Lists.{flat, filled}
-use Rattle.lists.specs.Order.{sort}
-use Rattle.lists.proofs.PartLaws.{filled-is, filled-length}
+use Rattle.lists.proofs.PartLaws.{filled-nil, filled-length}
 use Rattle.lists.proofs.SortLaws.{sort-length}
 use Rattle.format.specs.Bytes.{Bytes}
 use Rattle.format.specs.Labels.{ListOf, Bonds, Charges, Radicals, Centres, Pairs}
-use Rattle.format.specs.Rows.{Row, row}
 use Rattle.format.specs.Structure.{Structure, rowsOf, lists, rowBefore}
 use Rattle.format.specs.Reading.{State, finished, spanOf}
 use Rattle.format.specs.Table.{atomCells, rowsPart, counts, spanCells, derived, encode}
-use Rattle.sorted.specs.Regions.{kindsRegion, coded}
+use Rattle.sorted.specs.Regions.{kindsRegion}
 use Rattle.gather.specs.Progress.{proseAt, Counted, Bounded, Listed, Holding}
 use Rattle.gather.specs.declared.progress.Progress.{Progress}
 use Rattle.gather.proofs.LaidLaws.{Sized, sized, fromOf, sizeOf, shownAs, list-seated, atoms-seated}
-use Rattle.publish.specs.Numbering.{Renumbered}
-use Rattle.publish.specs.Published.{bondOut, centreOut, pairOut, copied, valueOut, countsOut, headerOut, atomOut, gathered, atomsOut, spreadOut, markedOut, rowsOut, tableOut, Renumbers, Renumbering}
+use Rattle.numbering.specs.Renumbers.{Renumbers, Renumbering}
+use Rattle.publish.specs.Published.{bondOut, centreOut, pairOut, copied, valueOut, countsOut, headerOut, atomOut, gathered, atomsOut, spreadOut, markedOut, rowsOut, tableOut}
 use Rattle.publish.proofs.FillLaws.{signed-small, copied-length}
 use Rattle.publish.proofs.AtomLaws.{gathered-length}
 use Rattle.publish.proofs.AtomPartLaws.{atoms-part, charges-part, radicals-part}
@@ -201,29 +199,20 @@ module _ (k : ℕ) (b : k ≤ 103) (block : Bytes) (size : ℕ) (p : Progress) (
       ∙ header-is block p s rest (counts-are p (st .body) (w .counted) (w .id) (h .listed))
       ∙ ap (λ x. map pos (counts s) ++ (flat spanCells (map spanOf x) ++ (derived s ++ rest))) (sym (h .texts))
 
--- RENUMBERED: the order, then the values
-cell-map : {A : Type 0} (f : A → ℕ) (d : A) (xs : List A) (i : ℕ) → i < length xs → getD (map f xs) i 0 ≡ f (getD xs i d)
-cell-map f d [] i h = absurd (omega arith)
-cell-map f d (x ∷ xs) zero h = refl
-cell-map f d (x ∷ xs) (suc i) h = cell-map f d xs i (omega arith)
+-- RENUMBERED: what a renumbering is lent has its length
+lent-long : (from : ℕ) (t : List ℕ) → length t ≡ 2960 → from + 321 ≤ 2960 → length (take 321 (drop from t)) ≡ 321
+lent-long from t h k = length-take-le 321 (drop from t) (simp length-drop (omega arith))
 
-pub renumbers : (rs : List Row) (order values : List ℕ) → Renumbered rs order → values ≡ filled 0 64 (map (λ r. coded (r .value)) (sort rowBefore rs)) → Renumbers rs order values
-renumbers rs order values f e = record {
-  number = λ n l h. f .members n;
-  value = λ i h.
-      let ss : List Row = sort rowBefore rs in
-      let vs : List ℕ = map (λ r. coded (r .value)) ss in
-      let k : i < length ss = omega (arith, sort-length rowBefore rs) in
-      ap (λ t. getD t i 0) (e ∙ filled-is 0 64 vs) ∙ List·getD-append vs (replicate (64 - length vs) 0) 0 i (omega (arith, length-map ss (λ r. coded (r .value))))
-      ∙ cell-map (λ r. coded (r .value)) (row [] (pos 0) 0) ss i k;
-}
+blank-long : (n : ℕ) (t : List ℕ) → t ≡ filled 0 n [] → length t ≡ n
+blank-long n t e = ap length (e ∙ filled-nil 0 n) ∙ length-replicate {A = ℕ} n 0
 
-pub publishes : (table table′ : List ℤ) (block : Bytes) (size : ℕ) (p : Progress) (t co₀ cs₀ ro₀ rs₀ co cs ro rs : List ℕ) → Bounded size p → co₀ ≡ filled 0 65 [] → cs₀ ≡ filled 0 64 []
+pub publishes : (table table′ : List ℤ) (block : Bytes) (size : ℕ) (p : Progress) (t co₀ cs₀ ro₀ rs₀ co cs ro rs : List ℕ) → length t ≡ 2960 → Bounded size p → co₀ ≡ filled 0 65 [] → cs₀ ≡ filled 0 64 []
     → ro₀ ≡ filled 0 65 [] → rs₀ ≡ filled 0 64 [] → Renumbering (take 321 (drop 768 t)) (p .atoms) (p .charges) co₀ cs₀ co cs
     → Renumbering (take 321 (drop 1089 t)) (p .atoms) (p .radicals) ro₀ rs₀ ro rs → table′ ≡ tableOut block p t co cs ro rs ++ drop 3856 table → (k : ℕ) (st : State) → Holding k block p t st
     → k ≤ 103 → table′ ≡ encode (finished (st .body)) (map spanOf (st .texts)) ++ drop 3856 table
 unfolding rowsOf
-publishes table table′ block size p t co₀ cs₀ ro₀ rs₀ co cs ro rs w x y u v f g e k st h b =
+publishes table table′ block size p t co₀ cs₀ ro₀ rs₀ co cs ro rs long w x y u v f g e k st h b =
+    let c = w .counted in
     e ∙ ap (λ l. l ++ drop 3856 table)
-    (published k b block size p t st w h co cs ro rs (f true (st .body .charges) (h .listed .counts Charges) (h .listed .fits Charges) (at-list k b block size p t st w h Charges) x y)
-    (g false (st .body .radicals) (h .listed .counts Radicals) (h .listed .fits Radicals) (at-list k b block size p t st w h Radicals) u v))
+    (published k b block size p t st w h co cs ro rs (f (lent-long 768 t long (omega arith)) (c .atoms) (c .charges) (blank-long 65 co₀ x) (blank-long 64 cs₀ y) true (st .body .charges) (h .listed .counts Charges) (h .listed .fits Charges) (at-list k b block size p t st w h Charges) x y)
+    (g (lent-long 1089 t long (omega arith)) (c .atoms) (c .radicals) (blank-long 65 ro₀ u) (blank-long 64 rs₀ v) false (st .body .radicals) (h .listed .counts Radicals) (h .listed .fits Radicals) (at-list k b block size p t st w h Radicals) u v))

@@ -1,3 +1,2 @@
 -- How the table shows what scratch and progress hold, file by file. Assumes nothing.
-pub mod Numbering
 pub mod Published

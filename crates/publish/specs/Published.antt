@@ -1,21 +1,15 @@
 -- How the scratch's numbers stand in the structure table: document 01, "The structure table". Assumes nothing.
-use Prim.Native.Nat.{ℕ, zero, suc, _+_, _-_, _*_, _/_, _%_, _≤_, _<_}
-use mathlib.Core.Path.{_≡_}
+use Prim.Native.Nat.{ℕ, zero, suc, _+_, _-_, _*_, _/_, _%_}
 use mathlib.Core.List.{List, [], _∷_, _++_}
 use mathlib.Core.Bool.{Bool, true, false}
-use lib.ListN.{length, getD, take, drop}
+use lib.ListN.{getD, take, drop}
 use lib.IntN.{ℤ, pos, negℤ}
 use lib.Dec.{ltb}
 use lib.Seq.{sets}
 use Rattle.lists.specs.Lists.{concat, filled, rowsFrom}
-use Rattle.lists.specs.Order.{sort}
 use Rattle.format.specs.Bytes.{Bytes}
-use Rattle.format.specs.Rows.{Row, row}
-use Rattle.format.specs.Structure.{rowBefore}
 use Rattle.format.specs.Reading.{spanOf}
-use Rattle.format.specs.Table.{spanCells, rowWith}
-use Rattle.sorted.specs.Regions.{memberOf, coded, spreadRegion, Fits}
-use Rattle.gather.specs.Members.{listOf}
+use Rattle.format.specs.Table.{spanCells}
 use Rattle.gather.specs.Progress.{proseAt}
 use Rattle.gather.specs.declared.progress.Progress.{Progress}
 
@@ -92,16 +86,6 @@ rowsOut p t cs rs = copied 2 bondOut 1536 (p .bonds) (take 1024 (drop 1410 t)) +
 -- the whole table
 unfoldable pub tableOut : (block : Bytes) → Progress → (scratch charge-order charges radical-order radicals : List ℕ) → List ℤ
 tableOut block p t co cs ro rs = headerOut block p ++ (atomsOut (take 768 t) (take 321 (drop 768 t)) co (take 321 (drop 1089 t)) ro (p .atoms) ++ rowsOut p t cs rs)
-
--- What a renumbering of charge or radical rows says: for each atom its row's number among the sorted rows, and the sorted rows' values as codes
-pub record Renumbers (rs : List Row) (order values : List ℕ) : Type 0 where
-  pub number : (n : ℕ) → 1 ≤ n → n ≤ 256 → getD order (memberOf n rs) 0 ≡ rowWith 1 n (sort rowBefore rs)
-  pub value : (i : ℕ) → i < length rs → getD values i 0 ≡ coded (getD (sort rowBefore rs) i (row [] (pos 0) 0) .value)
-
--- what a renumbering promises of the rows that a region shows, `order` and `values` all zeros before it
-abbrev pub Renumbering : (region : List ℕ) → (atoms rows : ℕ) → (order₀ values₀ order values : List ℕ) → Type 0
-Renumbering region atoms n order₀ values₀ order values =
-    (s : Bool) (rs : List Row) → length rs ≡ n → Fits (listOf s) atoms rs → region ≡ spreadRegion rs → order₀ ≡ filled 0 65 [] → values₀ ≡ filled 0 64 [] → Renumbers rs order values
 
 -- an answer tells whether a fact holds
 abbrev pub Tells : Bool → Type 0 → Type 0

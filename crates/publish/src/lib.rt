@@ -3,7 +3,6 @@
 mod fill; // fill.rt: the regions of the table
 mod guard; // guard.rt: whether progress is one that a reading leaves
 mod header; // header.rt: the first sixteen numbers of the table
-mod numbering; // numbering.rt: charge and radical rows in order
 mod records; // records.rt: the atoms of the table, charge and radical values
 
 ghost use mathlib.Core.Path.{_≡_};
@@ -13,7 +12,7 @@ ghost use lib.ListN.{length, drop};
 ghost use Rattle.format.specs.Reading.{State, finished, spanOf};
 ghost use Rattle.format.specs.Table.{zeros, encode};
 ghost use Rattle.gather.specs.Progress.{Counted, Bounded, Holding};
-ghost use Rattle.publish.specs.Published.{spreadOut, markedOut, rowsOut, tableOut, Renumbering};
+ghost use Rattle.publish.specs.Published.{spreadOut, markedOut, rowsOut, tableOut};
 use format::Table;
 use gather::progress::Progress;
 
@@ -78,15 +77,6 @@ fn fill_table(
     );
 }
 
-// The numbers and values of charge or radical rows in their sorted order, for tables of zeros.
-fn renumber(region: &[u32], atoms: usize, rows: usize, order: &mut [u32], values: &mut [u32])
-    requires { ⌜ (length (now region) ≡ 321) × (atoms ≤ 256) × (rows ≤ 64) × (length (now order) ≡ 65) × (length (now values) ≡ 64) ⌝ }
-    ensures { λ _. ⌜ Renumbering (now (region .entry)) atoms rows (now (order .entry)) (now (values .entry)) (now (order .exit)) (now (values .exit)) ⌝ }
-{
-    numbering::order_of(region, atoms, rows, order);
-    numbering::sorted_values(region, order, rows, values);
-}
-
 // The structure that progress and scratch hold.
 fn put_structure(block: &[u8], p: Progress, scratch: &[u32], table: &mut [i32])
     requires { ⌜ (3856 ≤ length (now table)) × (length (now scratch) ≡ 2960) × Bounded (length (now block)) p × (length (now block) ≤ 32768) ⌝ }
@@ -94,7 +84,7 @@ fn put_structure(block: &[u8], p: Progress, scratch: &[u32], table: &mut [i32])
 {
     let mut charge_order = [0u32; 65];
     let mut charges = [0u32; 64];
-    renumber(
+    numbering::renumber(
         &scratch[768..1089],
         p.atoms,
         p.charges,
@@ -103,7 +93,7 @@ fn put_structure(block: &[u8], p: Progress, scratch: &[u32], table: &mut [i32])
     );
     let mut radical_order = [0u32; 65];
     let mut radicals = [0u32; 64];
-    renumber(
+    numbering::renumber(
         &scratch[1089..1410],
         p.atoms,
         p.radicals,

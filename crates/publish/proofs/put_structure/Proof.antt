@@ -61,7 +61,7 @@ same-length : tie.Need-same-length
 same-length c = search needs
 
 returns : tie.Need-returns
-returns c = publishes (c .before .before .before .before .before .before .before .before .before .before .before .before .before .before .before .before .before .before .before .before .before .args .table .now) _ _ _ (c .before .before .before .before .before .before .before .before .before .before .before .before .before .before .before .before .before .before .before .before .before .args .p) (c .before .before .before .before .before .before .before .before .before .before .before .before .before .before .before .before .before .before .before .before .before .args .scratch .now) _ _ _ _ _ _ _ _ (c .before .before .before .before .before .before .before .before .before .before .before .before .before .before .before .before .before .before .before .before .before .pre .2) (sym (filled-nil 0 65)) (sym (filled-nil 0 64)) (sym (filled-nil 0 65)) (sym (filled-nil 0 64)) (c .before .before .before .before .before .before .before .before .before .before .before .before .before .before .before .renumber .ensures) (c .before .before .before .before .before .before .before .before .before .renumber2 .ensures) (c .before .fill-table .ensures)
+returns c = publishes (c .before .before .before .before .before .before .before .before .before .before .before .before .before .before .before .before .before .before .before .before .before .args .table .now) _ _ _ (c .before .before .before .before .before .before .before .before .before .before .before .before .before .before .before .before .before .before .before .before .before .args .p) (c .before .before .before .before .before .before .before .before .before .before .before .before .before .before .before .before .before .before .before .before .before .args .scratch .now) _ _ _ _ _ _ _ _ (c .before .before .before .before .before .before .before .before .before .before .before .before .before .before .before .before .before .before .before .before .before .pre .1) (c .before .before .before .before .before .before .before .before .before .before .before .before .before .before .before .before .before .before .before .before .before .pre .2) (sym (filled-nil 0 65)) (sym (filled-nil 0 64)) (sym (filled-nil 0 65)) (sym (filled-nil 0 64)) (c .before .before .before .before .before .before .before .before .before .before .before .before .before .before .before .renumber .ensures) (c .before .before .before .before .before .before .before .before .before .renumber2 .ensures) (c .before .fill-table .ensures)
 
 pub put-structure-spec : {M : Type 1} → statement M
 put-structure-spec =

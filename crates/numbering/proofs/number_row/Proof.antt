@@ -1,12 +1,12 @@
--- `publish::numbering::number_row` meets its contract. Assumes nothing.
+-- `numbering::number_row` meets its contract. Assumes nothing.
 use mathlib.Core.Path.{refl}
 use native.Mathlib.Omega.{arith}
 use lib.ListN.{length-set}
-use Rattle.publish.proofs.NumberingLaws.{new-zero, new-beyond, new-numbered, new-is}
-use Rattle.publish.proofs.OrderingLaws.{row-kept, row-given}
+use Rattle.numbering.proofs.NumberingLaws.{new-zero, new-beyond, new-numbered, new-is}
+use Rattle.numbering.proofs.OrderingLaws.{row-kept, row-given}
 use borrow.Author.Needs.{needs}
-use Rattle.publish.proofs.numbering.number_row.Statement.{statement}
-use Rattle.publish.proofs.numbering.number_row.Tie as tie
+use Rattle.numbering.proofs.number_row.Statement.{statement}
+use Rattle.numbering.proofs.number_row.Tie as tie
 
 returns : tie.Need-returns
 returns c = (refl, omega arith, row-kept _ _ _ (new-zero _ _ (c .if1 .taken)) .0, row-kept _ _ _ (new-zero _ _ (c .if1 .taken)) .1)

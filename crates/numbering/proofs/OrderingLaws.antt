@@ -20,9 +20,9 @@ use Rattle.sorted.specs.Regions.{Fits, memberOf, membersFrom, voidOf, arrived, 
 use Rattle.gather.specs.Members.{listOf}
 use Rattle.gather.proofs.PlaceLaws.{getD-front, arrived-length}
 use Rattle.gather.proofs.SpreadLaws.{members-zero, members-suc, members-at, members-length, region-is, last-cell}
-use Rattle.publish.specs.Numbering.{isNew, nextAfter, orderAfter, numbered, withVoid, Renumbered, putAt, through}
-use Rattle.publish.proofs.NumberingLaws.{numbered-cons, numbered-nil}
-use Rattle.publish.proofs.RenumberLaws.{renumbered}
+use Rattle.numbering.specs.Numbering.{isNew, nextAfter, orderAfter, numbered, withVoid, Renumbered, putAt, through}
+use Rattle.numbering.proofs.NumberingLaws.{numbered-cons, numbered-nil}
+use Rattle.numbering.proofs.RenumberLaws.{renumbered}
 
 -- ONE ROW, new or not
 module _ (k next : ℕ) (order : List ℕ) where

@@ -1,10 +1,10 @@
--- `publish::numbering::put_at` meets its contract. Assumes nothing.
+-- `numbering::put_at` meets its contract. Assumes nothing.
 use mathlib.Core.Path.{refl}
 use lib.ListN.{length-set}
-use Rattle.publish.proofs.OrderingLaws.{put-none, put-beyond, put-is}
+use Rattle.numbering.proofs.OrderingLaws.{put-none, put-beyond, put-is}
 use borrow.Author.Needs.{needs}
-use Rattle.publish.proofs.numbering.put_at.Statement.{statement}
-use Rattle.publish.proofs.numbering.put_at.Tie as tie
+use Rattle.numbering.proofs.put_at.Statement.{statement}
+use Rattle.numbering.proofs.put_at.Tie as tie
 
 returns : tie.Need-returns
 returns c = (refl, put-none _ _ _ (c .if1 .taken))

@@ -1,13 +1,13 @@
--- `publish::numbering::order_of` meets its contract. Assumes nothing.
+-- `numbering::order_of` meets its contract. Assumes nothing.
 use Prim.Native.Nat.{_+_, _-_, _≤_}
 use mathlib.Core.Path.{_≡_, _∙_}
 use native.Mathlib.Omega.{arith}
 use borrow.Author.Needs.{needs}
 use lib.ListN.{length, take, drop}
-use Rattle.publish.specs.Numbering.{numbered}
-use Rattle.publish.proofs.OrderingLaws.{numbered-start, numbered-step, numbered-end, order-is}
-use Rattle.publish.proofs.numbering.order_of.Statement.{statement}
-use Rattle.publish.proofs.numbering.order_of.Tie as tie
+use Rattle.numbering.specs.Numbering.{numbered}
+use Rattle.numbering.proofs.OrderingLaws.{numbered-start, numbered-step, numbered-end, order-is}
+use Rattle.numbering.proofs.order_of.Statement.{statement}
+use Rattle.numbering.proofs.order_of.Tie as tie
 
 abbrev Inv-loop : tie.InvT-loop
 Inv-loop region atoms rows order₀ next₀ i₀ order next i = (i ≤ atoms) × (length order ≡ 65) × (next ≤ i + 1) × (numbered 1 (take atoms region) order₀ ≡ numbered next (take (atoms - i) (drop i region)) order)

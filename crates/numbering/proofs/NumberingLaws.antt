@@ -12,7 +12,7 @@ use lib.Seq.{getD-set-same, getD-set-other}
 use lib.Dec.{eqb, ltb}
 use borrow.Author.Tests.{eqb-true, eqb-false, ne-eqb, lt-ltb, eq-eqb, le-ltb}
 use Rattle.lists.proofs.Bools.{and-both, and-left-false, and-right-false}
-use Rattle.publish.specs.Numbering.{isNew, nextAfter, orderAfter, numbered}
+use Rattle.numbering.specs.Numbering.{isNew, nextAfter, orderAfter, numbered}
 
 -- WHETHER A ROW IS NEW
 module _ (k : ℕ) (order : List ℕ) where

@@ -1,14 +1,14 @@
--- `publish::numbering::sorted_values` meets its contract. Assumes nothing.
+-- `numbering::sorted_values` meets its contract. Assumes nothing.
 use Prim.Native.Nat.{_+_, _-_, _≤_}
 use mathlib.Core.Path.{_≡_, _∙_}
 use native.Mathlib.Omega.{arith}
 use borrow.Author.Needs.{needs}
 use lib.ListN.{length, take, drop}
-use Rattle.publish.specs.Numbering.{through}
-use Rattle.publish.proofs.OrderingLaws.{through-start, through-step, through-end}
-use Rattle.publish.proofs.SortedValueLaws.{values-are}
-use Rattle.publish.proofs.numbering.sorted_values.Statement.{statement}
-use Rattle.publish.proofs.numbering.sorted_values.Tie as tie
+use Rattle.numbering.specs.Numbering.{through}
+use Rattle.numbering.proofs.OrderingLaws.{through-start, through-step, through-end}
+use Rattle.numbering.proofs.SortedValueLaws.{values-are}
+use Rattle.numbering.proofs.sorted_values.Statement.{statement}
+use Rattle.numbering.proofs.sorted_values.Tie as tie
 
 abbrev Inv-loop : tie.InvT-loop
 Inv-loop region order rows values₀ i₀ values i = (i ≤ rows) × (length values ≡ 64) × (through order 0 (take rows (drop 256 region)) values₀ ≡ through order i (take (rows - i) (drop (256 + i) region)) values)

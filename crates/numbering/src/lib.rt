@@ -11,7 +11,8 @@ ghost use Rattle.format.specs.Rows.{Row};
 ghost use Rattle.format.specs.Structure.{rowBefore};
 ghost use Rattle.sorted.specs.Regions.{Fits, spreadRegion, coded};
 ghost use Rattle.gather.specs.Members.{listOf};
-ghost use Rattle.publish.specs.Numbering.{isNew, nextAfter, orderAfter, withVoid, Renumbered, putAt};
+ghost use Rattle.numbering.specs.Numbering.{isNew, nextAfter, orderAfter, withVoid, Renumbered, putAt};
+ghost use Rattle.numbering.specs.Renumbers.{Renumbering};
 
 // The row of an atom gets the next number where it has none; the answer is the number for the next such row.
 fn number_row(row: usize, next: u32, order: &mut [u32]) -> u32
@@ -46,7 +47,7 @@ fn number_void(void: usize, rows: usize, order: &mut [u32])
 }
 
 // For each number that a row has as it came, 1 to `rows`, its number in the sorted list.
-pub fn order_of(region: &[u32], atoms: usize, rows: usize, order: &mut [u32])
+fn order_of(region: &[u32], atoms: usize, rows: usize, order: &mut [u32])
     requires { ⌜ (length (now region) ≡ 321) × (length (now order) ≡ 65) × (atoms ≤ 256) × (rows ≤ 64) ⌝ }
     ensures { λ _. ⌜ (length (now (order .exit)) ≡ 65) × ((s : Bool) (rs : List Row) → length rs ≡ rows → Fits (listOf s) atoms rs → now (region .entry) ≡ spreadRegion rs → now (order .entry) ≡ filled 0 65 [] → Renumbered rs (now (order .exit))) ⌝ }
 {
@@ -73,7 +74,7 @@ fn put_at(values: &mut [u32], place: usize, value: u32)
 }
 
 // The values of the rows, each as value + 100, in the order of the sorted rows.
-pub fn sorted_values(region: &[u32], order: &[u32], rows: usize, values: &mut [u32])
+fn sorted_values(region: &[u32], order: &[u32], rows: usize, values: &mut [u32])
     requires { ⌜ (length (now region) ≡ 321) × (length (now order) ≡ 65) × (length (now values) ≡ 64) × (rows ≤ 64) ⌝ }
     ensures { λ _. ⌜ (length (now (values .exit)) ≡ 64) × ((rs : List Row) → length rs ≡ rows → now (region .entry) ≡ spreadRegion rs → Renumbered rs (now (order .entry)) → now (values .entry) ≡ filled 0 64 [] → now (values .exit) ≡ filled 0 64 (map (λ r. coded (r .value)) (sort rowBefore rs))) ⌝ }
 {
@@ -82,4 +83,28 @@ pub fn sorted_values(region: &[u32], order: &[u32], rows: usize, values: &mut [u
         put_at(values, order[i + 1] as usize, region[256 + i]);
         i += 1;
     }
+}
+
+// The numbers and values of charge or radical rows in their sorted order, for tables of zeros. What no reading lends, another length or a count over its limit, is
+// untouched.
+pub fn renumber(region: &[u32], atoms: usize, rows: usize, order: &mut [u32], values: &mut [u32])
+    ensures { λ _. ⌜ Renumbering (now (region .entry)) atoms rows (now (order .entry)) (now (values .entry)) (now (order .exit)) (now (values .exit)) ⌝ }
+{
+    if region.len() != 321 {
+        return;
+    }
+    if order.len() != 65 {
+        return;
+    }
+    if values.len() != 64 {
+        return;
+    }
+    if 256 < atoms {
+        return;
+    }
+    if 64 < rows {
+        return;
+    }
+    order_of(region, atoms, rows, order);
+    sorted_values(region, order, rows, values);
 }

@@ -17,9 +17,9 @@ use Rattle.format.specs.Rows.{Row}
 use Rattle.format.specs.Structure.{rowBefore}
 use Rattle.sorted.specs.Regions.{arrived, coded, spreadRegion}
 use Rattle.gather.proofs.PlaceLaws.{arrived-length, getD-front, codeOf}
-use Rattle.publish.specs.Numbering.{Renumbered, putAt, through}
-use Rattle.publish.proofs.RenumberLaws.{getD-zeros, blank-at}
-use Rattle.publish.proofs.OrderingLaws.{put-is, through-nil, through-cons, region-values}
+use Rattle.numbering.specs.Numbering.{Renumbered, putAt, through}
+use Rattle.numbering.proofs.RenumberLaws.{getD-zeros, blank-at}
+use Rattle.numbering.proofs.OrderingLaws.{put-is, through-nil, through-cons, region-values}
 
 -- A FILLED LIST at an index
 filled-front : (n : ℕ) (l : List ℕ) (i : ℕ) → i < length l → getD (filled 0 n l) i 0 ≡ getD l i 0

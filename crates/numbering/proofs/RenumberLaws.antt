@@ -28,9 +28,9 @@ use Rattle.sorted.proofs.FitLaws.{row-fits}
 use Rattle.gather.specs.Members.{listOf}
 use Rattle.gather.proofs.SpreadLaws.{members-zero, members-suc}
 use Rattle.gather.proofs.PlaceLaws.{has, void, tells, backOf, frontOf, codeOf, back-none, front-none, back-some, front-some, any-at, back-at, front-at, back-both, front-both, back-same, front-same, back-value, front-value, member-back, void-back, with-front}
-use Rattle.publish.specs.Numbering.{isNew, nextAfter, orderAfter, numbered, withVoid, Renumbered}
-use Rattle.publish.proofs.AppearLaws.{all-member, tells-alone, rising, InOrder, appears, void-last}
-use Rattle.publish.proofs.NumberingLaws.{numbered-cons, numbered-nil, Numberings, Going, pass}
+use Rattle.numbering.specs.Numbering.{isNew, nextAfter, orderAfter, numbered, withVoid, Renumbered}
+use Rattle.numbering.proofs.AppearLaws.{all-member, tells-alone, rising, InOrder, appears, void-last}
+use Rattle.numbering.proofs.NumberingLaws.{numbered-cons, numbered-nil, Numberings, Going, pass}
 
 -- WHAT TELLS a row tells it
 abbrev pub markOf : List ℕ → Option ℕ

@@ -1,10 +1,10 @@
--- `publish::numbering::number_void` meets its contract. Assumes nothing.
+-- `numbering::number_void` meets its contract. Assumes nothing.
 use mathlib.Core.Path.{refl}
 use lib.ListN.{length-set}
-use Rattle.publish.proofs.OrderingLaws.{void-absent, void-set, void-beyond}
+use Rattle.numbering.proofs.OrderingLaws.{void-absent, void-set, void-beyond}
 use borrow.Author.Needs.{needs}
-use Rattle.publish.proofs.numbering.number_void.Statement.{statement}
-use Rattle.publish.proofs.numbering.number_void.Tie as tie
+use Rattle.numbering.proofs.number_void.Statement.{statement}
+use Rattle.numbering.proofs.number_void.Tie as tie
 
 returns : tie.Need-returns
 returns c = (refl, void-absent _ _ _ (c .if1 .taken))
