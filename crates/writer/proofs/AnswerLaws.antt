@@ -1,7 +1,7 @@
 -- The writer's answer in each of its cases: document 01, the writing part of "Refusal numbers" ("Refusals in this order: 1; 21 ..; 23 ..; 22"). Assumes nothing.
-use Prim.Native.Nat.{ℕ, _+_, _≤_, _<_}
+use Prim.Native.Nat.{ℕ, _≤_, _<_}
 use mathlib.Core.Path.{_≡_, refl, sym, ap, ap₂, _∙_}
-use mathlib.Core.Bool.{Bool, true, false, _&&_, not}
+use mathlib.Core.Bool.{Bool, true, false, _&&_}
 use mathlib.Core.List.{List, _++_}
 use native.Mathlib.Omega.{arith}
 use borrow.Author.Tests.{ltb-true, ltb-false, lt-ltb, le-ltb, le-leb}
@@ -10,10 +10,10 @@ use lib.ListN.{length, drop}
 use lib.IntN.{ℤ}
 use Rattle.format.specs.Bytes.{Bytes}
 use Rattle.format.specs.Table.{sound}
-use Rattle.format.specs.Writing.{WriteResult, unwritten, formOf, writtenAs, writeResult}
+use Rattle.format.specs.Writing.{formOf, writtenAs, writeResult}
 use Rattle.tally.specs.Gathering.{Gathers}
-use Rattle.writer.specs.Printing.{after, over, Laid}
-use Rattle.writer.specs.Forms.{Printable, FormLaid}
+use Rattle.writer.specs.Printing.{after, Laid}
+use Rattle.writer.specs.Forms.{FormLaid}
 use Rattle.writer.specs.Answers.{shown, SoundWritten, Measured}
 use Rattle.writer.specs.declared.Answer.{Answer}
 use Rattle.writer.specs.declared.Answer.the-variants.{Written, Refused}

@@ -1,16 +1,15 @@
 -- The formula printed entry by entry is the definition's one fragment: document 01, "The one written form". Assumes nothing.
-use Prim.Native.Nat.{ℕ, suc, _+_, _/_, _%_, _≤_, _<_}
-use mathlib.Core.Path.{_≡_, refl, sym, ap, ap₂, _∙_}
-use mathlib.Core.Bool.{Bool, true, false}
-use mathlib.Core.List.{List, [], _∷_, _++_, append-nil, append-assoc}
+use Prim.Native.Nat.{ℕ, _+_, _/_, _%_, _≤_, _<_}
+use mathlib.Core.Path.{_≡_, refl, sym, ap, _∙_}
+use mathlib.Core.Bool.{true}
+use mathlib.Core.List.{List, [], _∷_, _++_, append-nil}
 use native.Mathlib.Omega.{arith}
 use borrow.Author.Tests.{eq-eqb, ne-eqb}
-use lib.Dec.{eqb}
 use lib.ListN.{length, getD, drop, length-append, drop-of-length-le}
-use Rattle.lists.specs.Lists.{all, flat}
+use Rattle.lists.specs.Lists.{all}
 use Rattle.lists.proofs.PartLaws.{flat-nil, flat-cons}
 use Rattle.format.specs.Bytes.{Bytes, bytes}
-use Rattle.format.specs.Formula.{Counted, counted}
+use Rattle.format.specs.Formula.{Counted}
 use Rattle.format.specs.Structure.{isotopeOf, Atom, atomOk, entriesOf, letters}
 use Rattle.format.specs.Writing.{digits, spelt, printMass, printSym, formulaOf, printCount, printEntry, fragment, printFragment, printFragments, printFormula, valued, printRecord}
 use Rattle.tally.specs.Ranks.{elementOf}

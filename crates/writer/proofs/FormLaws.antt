@@ -1,21 +1,21 @@
 -- Record by record the one written form: document 01, "The one written form" ("Records in this order"). Assumes nothing.
-use Prim.Native.Nat.{ℕ, _+_, _≤_}
+use Prim.Native.Nat.{ℕ, _+_}
 use Prim.Native.String.{String}
-use mathlib.Core.Path.{_≡_, refl, sym, ap, ap₂, _∙_}
-use mathlib.Core.List.{List, [], _∷_, _++_, map, append-nil}
+use mathlib.Core.Path.{_≡_, sym, ap, ap₂, _∙_}
+use mathlib.Core.List.{List, [], _++_, map, append-nil}
 use native.Mathlib.Nat.{add-zero}
-use lib.ListN.{length, getD, take, drop}
+use lib.ListN.{getD, take, drop}
 use lib.IntN.{ℤ, pos, natAbs}
 use lib.Seq.{drop-drop, getD-drop}
 use Rattle.lists.specs.Lists.{concat, flat, rowsFrom}
 use Rattle.format.specs.Bytes.{Bytes, bytes}
-use Rattle.format.specs.Structure.{entriesOf, rowsOf, lists}
+use Rattle.format.specs.Structure.{rowsOf, lists}
 use Rattle.format.specs.Table.{cell, decode, spanAt, spansOf, textAt}
-use Rattle.format.specs.Writing.{valued, printId, printRecord, printFormula, fragment, formulaOf, printAtoms, printRows, records, canonical, formOf}
+use Rattle.format.specs.Writing.{valued, printId, printRecord, printAtoms, printRows, records, canonical, formOf}
 use Rattle.writer.specs.Printing.{Laid}
 use Rattle.writer.specs.Listing.{GroupsFit}
 use Rattle.writer.specs.Entries.{FormulaLaid}
-use Rattle.writer.specs.Forms.{Printable, FormLaid}
+use Rattle.writer.specs.Forms.{FormLaid}
 use Rattle.writer.proofs.PrintLaws.{laid-then, laid-as}
 
 -- THE TEXTS

@@ -12,3 +12,4 @@ pub mod EntryLaws
 pub mod FormLaws
 pub mod SoundLaws
 pub mod AnswerLaws
+pub mod OneAnswer

@@ -1,11 +1,10 @@
 -- A line printed word by word: document 01, "The one written form" ("One line feed a line, one space between fields"; "zero hydrogens and group 0 left out").
 -- Assumes nothing.
-use Prim.Native.Nat.{ℕ, zero, suc, _+_, _*_, _%_, _<_}
+use Prim.Native.Nat.{ℕ, _+_, _*_, _%_, _<_}
 use mathlib.Core.Path.{_≡_, refl, sym, ap, ap₂, _∙_}
 use mathlib.Core.Bool.{Bool, true, false}
-use mathlib.Core.List.{List, [], _∷_, _++_, map, append-assoc}
+use mathlib.Core.List.{List, [], _∷_, _++_, append-assoc}
 use native.Mathlib.Omega.{arith}
-use lib.ListN.{getD}
 use lib.IntN.{ℤ, pos, negsuc, natAbs}
 use Rattle.lists.proofs.Bools.{torn}
 use Rattle.format.specs.Bytes.{Bytes}
@@ -15,8 +14,8 @@ use Rattle.format.specs.Writing.{digits, unlessZero, behind, line, spelt, print
 use Rattle.cells.specs.Signs.{negative}
 use Rattle.writer.specs.Printing.{Laid, spaced}
 use Rattle.writer.specs.Lines.{markWords, markLine, atomNo, atomLine}
-use Rattle.writer.proofs.PrintLaws.{laid-none, laid-then, laid-as, spaced-none, spaced-more}
-use Rattle.writer.proofs.NumberLaws.{zero-left-out, unless-zero}
+use Rattle.writer.proofs.PrintLaws.{laid-then, laid-as, spaced-none, spaced-more}
+use Rattle.writer.proofs.NumberLaws.{unless-zero}
 
 -- WORDS BEHIND A WORD, and the line's end
 pub behind-spaced : (ws : List Bytes) → behind ws ≡ spaced ws ++ (10 ∷ [])

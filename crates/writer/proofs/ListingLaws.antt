@@ -1,7 +1,7 @@
 -- The atoms and the rows of a list printed one by one are the list's text: document 01, "The one written form" ("empty optional ones left out"). Assumes nothing.
-use Prim.Native.Nat.{ℕ, zero, suc, _+_, _*_, _≤_, _<_}
+use Prim.Native.Nat.{ℕ, suc, _+_, _*_, _≤_, _<_}
 use mathlib.Core.Path.{_≡_, refl, sym, ap, ap₂, _∙_, subst}
-use mathlib.Core.Bool.{Bool, true, false}
+use mathlib.Core.Bool.{true}
 use mathlib.Core.List.{List, [], _∷_, _++_, map, append-nil}
 use native.Mathlib.Numerals.{add-one}
 use native.Mathlib.Omega.{arith}
@@ -10,13 +10,13 @@ use lib.Dec.{ltb}
 use lib.ListN.{length, getD, drop, drop-of-length-le}
 use lib.IntN.{ℤ, pos}
 use lib.Seq.{drop-cons}
-use Rattle.lists.specs.Lists.{all, flat}
+use Rattle.lists.specs.Lists.{flat}
 use Rattle.lists.proofs.ListLaws.{all-at}
 use Rattle.lists.proofs.PartLaws.{flat-nil, flat-cons, map-drop}
 use Rattle.format.specs.Bytes.{Bytes}
 use Rattle.format.specs.Labels.{ListOf, Bonds, Charges, Radicals, Centres, Pairs}
 use Rattle.format.specs.Rows.{Row, row}
-use Rattle.format.specs.Structure.{Isotope, isotopeOf, Atom, rowsOf, lists}
+use Rattle.format.specs.Structure.{isotopeOf, Atom, rowsOf, lists}
 use Rattle.format.specs.Table.{cell, atomAt, atomRecords, decode}
 use Rattle.format.specs.Writing.{line, rowWords, atomWords, printAtoms, listLabel, printRecord, printRows}
 use Rattle.writer.specs.Printing.{Laid, Rests}
@@ -24,7 +24,7 @@ use Rattle.writer.specs.Lines.{atomNo, atomLine, rowNo, RowLaid}
 use Rattle.writer.specs.Listing.{listOf, groupsFit, GroupsFit, rowsText, RowsLaid, ListLaid}
 use Rattle.writer.specs.declared.listing.Listed.{Listed}
 use Rattle.writer.proofs.PrintLaws.{laid-none, laid-then, laid-as, rest-on, rest-none}
-use Rattle.writer.proofs.PlaceLaws.{records-many, record-cell}
+use Rattle.writer.proofs.PlaceLaws.{record-cell}
 
 -- THE ATOMS
 atom-is : (t : List ℤ) (i : ℕ) → i < length (atomRecords t) → atomAt (getD (atomRecords t) i []) ≡ atomNo t i

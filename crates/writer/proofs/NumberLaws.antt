@@ -7,7 +7,7 @@ use borrow.Author.Tests.{lt-ltb, le-ltb}
 use Rattle.format.specs.Bytes.{Bytes}
 use Rattle.format.specs.Writing.{digitsIn, digits, unlessZero}
 use Rattle.writer.specs.Printing.{Laid, spaced}
-use Rattle.writer.proofs.PrintLaws.{laid-as, spaced-none, spaced-more}
+use Rattle.writer.proofs.PrintLaws.{spaced-none, spaced-more}
 
 pub digits-none : (k n : ℕ) → k ≡ 0 → [] ≡ digitsIn k n
 unfolding digitsIn

@@ -1,25 +1,19 @@
 -- Where the rows and the atoms of a table stand, and how many there are: document 01, "The structure table". Assumes nothing.
-use Prim.Native.Nat.{ℕ, zero, suc, _+_, _-_, _*_, _≤_, _<_, min}
+use Prim.Native.Nat.{ℕ, zero, suc, _+_, _*_, _≤_, _<_}
 use mathlib.Core.Path.{_≡_, refl, sym, ap, ap₂, _∙_}
-use mathlib.Core.Bool.{Bool, true, false}
-use mathlib.Core.List.{List, [], _∷_, _++_, map}
+use mathlib.Core.List.{List, [], _∷_, map}
 use native.Mathlib.Nat.{min-le-left, min-eq-left, min-eq-right, add-zero, not-suc-le-zero, le-of-suc-le-suc}
 use native.Mathlib.Numerals.{add-one}
 use native.Mathlib.Omega.{arith}
-use borrow.Author.Tests.{eqb-true, eqb-false}
-use lib.Dec.{eqb}
-use lib.ListN.{length, getD, take, drop, length-take, length-drop, List·getD-map}
+use lib.ListN.{length, getD, take, drop, length-take, length-drop}
 use lib.IntN.{ℤ, pos, natAbs}
 use lib.Seq.{drop-cons, drop-drop, getD-drop, getD-take, length-take-le}
-use Rattle.lists.specs.Lists.{rowsFrom}
 use Rattle.lists.proofs.RegionLaws.{rows-length, rows-at}
-use Rattle.lists.proofs.PartLaws.{map-drop}
-use Rattle.format.specs.Bytes.{Bytes}
-use Rattle.format.specs.Labels.{ListOf, Bonds, Charges, Radicals, Centres, Pairs}
+use Rattle.format.specs.Labels.{Bonds, Charges, Radicals, Centres, Pairs}
 use Rattle.format.specs.Rows.{Row, row}
-use Rattle.format.specs.Structure.{Atom, rowsOf}
-use Rattle.format.specs.Table.{cell, countAt, atomAt, markedAt, bondAt, membersAt, spreadAt, atomRecords, decode}
-use Rattle.writer.specs.Lines.{atomNo, rowNo}
+use Rattle.format.specs.Structure.{rowsOf}
+use Rattle.format.specs.Table.{cell, countAt, markedAt, bondAt, membersAt, spreadAt, atomRecords, decode}
+use Rattle.writer.specs.Lines.{rowNo}
 
 -- A COUNT
 pub count-low : (t : List ℤ) (p m n : ℕ) → n ≡ cell t p → n < m → (n ≡ countAt t p m) × (n ≤ m)

@@ -8,17 +8,15 @@ use native.Mathlib.Omega.{arith}
 use borrow.Author.Tests.{eq-eqb, ne-eqb}
 use lib.Dec.{eqb}
 use lib.ListN.{length, getD, drop, drop-of-length-le}
-use lib.IntN.{ℤ, pos, natAbs}
+use lib.IntN.{ℤ, pos}
 use lib.Seq.{drop-cons}
 use Rattle.format.specs.Bytes.{Bytes, bytes}
-use Rattle.format.specs.Labels.{ListOf, Bonds, Charges, Radicals, Centres, Pairs}
-use Rattle.format.specs.Rows.{Row, row}
-use Rattle.format.specs.Structure.{rowsOf}
-use Rattle.format.specs.Table.{cell, membersAt, atomRecords, decode}
-use Rattle.format.specs.Writing.{digits, line, letterOf, rowWords, signedOf}
+use Rattle.format.specs.Labels.{Bonds, Charges, Radicals, Centres, Pairs}
+use Rattle.format.specs.Table.{cell, membersAt, atomRecords}
+use Rattle.format.specs.Writing.{digits, line, rowWords, signedOf}
 use Rattle.writer.specs.Printing.{Laid, spaced}
-use Rattle.writer.specs.Lines.{markWords, markLine, memberOf, rowNo, RowLaid}
-use Rattle.writer.proofs.PrintLaws.{laid-none, laid-as, spaced-none, spaced-more}
+use Rattle.writer.specs.Lines.{markLine, memberOf, RowLaid}
+use Rattle.writer.proofs.PrintLaws.{laid-as, spaced-none, spaced-more}
 use Rattle.writer.proofs.LineLaws.{spread-laid}
 use Rattle.writer.proofs.PlaceLaws.{bond-is, centre-is, pair-is, charge-is, radical-is, record-cell}
 

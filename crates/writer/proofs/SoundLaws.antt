@@ -1,10 +1,10 @@
 -- A sound table can be printed: its atoms have letters, its groups are bytes. Document 01, "Refusal numbers" (21). Assumes nothing.
-use Prim.Native.Nat.{ℕ, _≤_, _<_}
-use mathlib.Core.Path.{_≡_, refl, sym, ap, _∙_}
+use Prim.Native.Nat.{ℕ, _<_}
+use mathlib.Core.Path.{_≡_, refl, ap}
 use mathlib.Core.Bool.{Bool, true, false, _&&_, _||_, not}
 use mathlib.Core.List.{List, [], _∷_}
 use native.Mathlib.Omega.{arith}
-use borrow.Author.Tests.{eqb-true, lt-ltb, leb-true}
+use borrow.Author.Tests.{eqb-true, lt-ltb}
 use lib.Dec.{eqb, ltb, leb}
 use lib.ListN.{length, take}
 use lib.IntN.{ℤ}
@@ -14,13 +14,13 @@ use Rattle.lists.proofs.Bools.{torn, and-parts, or-other}
 use Rattle.lists.proofs.ListLaws.{all-parts, all-imply}
 use Rattle.format.specs.Bytes.{Bytes, within}
 use Rattle.format.specs.Labels.{ListOf, Bonds, Charges, Radicals, Centres, Pairs}
-use Rattle.format.specs.Rows.{Row, upper, lower}
+use Rattle.format.specs.Rows.{upper, lower}
 use Rattle.format.specs.Structure.{Structure, rowsOf, lists, most, meets, rowBefore, atomOk, groupOk, rowOk, rowsOk, wellFormed}
 use Rattle.format.specs.Table.{decode, encode, spansOf, sameNumber, soundNumbers, textOk, sound}
 use Rattle.format.proofs.ByteLaws.{within-true}
 use Rattle.format.proofs.RowLaws.{row-fine}
 use Rattle.tally.specs.Gathering.{Gathers}
-use Rattle.writer.specs.Listing.{groupsFit, GroupsFit}
+use Rattle.writer.specs.Listing.{groupsFit}
 use Rattle.writer.specs.Forms.{Printable}
 
 -- A GROUP IS A BYTE

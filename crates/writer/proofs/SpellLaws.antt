@@ -1,18 +1,17 @@
 -- How an element and its mass are spelt: document 01, "The one written form" ("D and T for hydrogen 2 and 3"). Assumes nothing.
-use Prim.Native.Nat.{ℕ, zero, suc, _+_}
-use mathlib.Core.Path.{_≡_, refl, sym, ap, ap₂, _∙_}
-use mathlib.Core.Bool.{Bool, true, false, _&&_, not}
+use Prim.Native.Nat.{ℕ, zero, suc}
+use mathlib.Core.Path.{_≡_, refl, sym, ap, ap₂}
+use mathlib.Core.Bool.{_&&_, not}
 use mathlib.Core.List.{[], _∷_, _++_}
 use borrow.Author.Tests.{eq-eqb, ne-eqb}
 use lib.Dec.{eqb}
 use lib.ListN.{getD}
 use Rattle.format.specs.Bytes.{Bytes}
-use Rattle.format.specs.Structure.{Isotope, isotopeOf}
-use Rattle.format.specs.Rows.{Sym, symOf}
+use Rattle.format.specs.Structure.{isotopeOf}
 use Rattle.format.specs.Writing.{digits, symbolOf, speltBy, spelt, printMass, printSym}
 use Rattle.writer.specs.Printing.{Laid}
 use Rattle.writer.specs.Spelling.{plainSym, lettersOf}
-use Rattle.writer.proofs.PrintLaws.{laid-none, laid-then, laid-as}
+use Rattle.writer.proofs.PrintLaws.{laid-then, laid-as}
 
 -- ONE LETTER OR TWO
 pub letter-one : (a b : ℕ) → b ≡ 0 → a ∷ [] ≡ lettersOf a b

@@ -1,7 +1,6 @@
 -- A symbol by its letters: document 01, "The one written form". Assumes nothing.
-use Prim.Native.Nat.{ℕ, zero, suc}
+use Prim.Native.Nat.{ℕ}
 use mathlib.Core.Bool.{false, not}
-use mathlib.Core.List.{[], _∷_}
 use lib.ListN.{getD}
 use lib.Dec.{eqb}
 use Rattle.format.specs.Bytes.{Bytes}

@@ -1,6 +1,5 @@
 // The one written form of a table: document 01, "The one written form" ("Records in this order: TITLE, JCAMP-CS, ORIGIN, OWNER, BLOCK_ID, MOLFORM, ATOMLIST,
 // BONDLIST, CHARGE, RADICAL, STEREOCENTER, STEREOPAIR, END").
-ghost use mathlib.Core.Path.{_≡_};
 ghost use Prim.Native.Nat.{_≤_};
 ghost use lib.ListN.{length};
 ghost use Rattle.writer.specs.Forms.{FormLaid};

@@ -1,5 +1,4 @@
 // The formula, from its gathered entries: document 01, "The one written form" ("The formula is one fragment", "counts of 1 left out, no `/`").
-ghost use mathlib.Core.Path.{_≡_};
 ghost use mathlib.Core.List.{_∷_};
 ghost use Prim.Native.Nat.{_≤_};
 ghost use Rattle.format.specs.Writing.{printEntry};

@@ -1,12 +1,10 @@
 // An element and its mass as a symbol: document 01, "The one written form" ("D and T for hydrogen 2 and 3, .. in the atom list too").
 ghost use mathlib.Core.Path.{_≡_};
 ghost use mathlib.Core.Bool.{not};
-ghost use mathlib.Core.List.{[], _∷_};
 ghost use Prim.Native.Nat.{_-_, _<_};
 ghost use lib.Dec.{eqb};
 ghost use lib.ListN.{getD};
-ghost use Rattle.format.specs.Structure.{isotopeOf, letters};
-ghost use Rattle.format.specs.Rows.{symOf};
+ghost use Rattle.format.specs.Structure.{isotopeOf};
 ghost use Rattle.format.specs.Writing.{symbolOf, spelt, printMass, printSym};
 ghost use Rattle.writer.specs.Printing.{Laid};
 ghost use Rattle.writer.specs.Spelling.{plainSym, lettersOf};

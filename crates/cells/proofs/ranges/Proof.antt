@@ -1,6 +1,4 @@
 -- `cells::ranges` meets its contract. Assumes nothing.
-use lib.ListN.{getD}
-use lib.IntN.{pos}
 use Rattle.cells.proofs.SignLaws.{ranging-negative, ranging-low, ranging-high}
 use borrow.Author.Needs.{needs}
 use Rattle.cells.proofs.ranges.Statement.{statement}

@@ -1,6 +1,5 @@
 -- `writer::form::put_form` meets its contract. Assumes nothing.
 use mathlib.Core.Path.{_∙_}
-use native.Mathlib.Omega.{arith}
 use Rattle.format.specs.Bytes.{bytes}
 use Rattle.format.specs.Writing.{valued, printRecord}
 use Rattle.writer.proofs.FormLaws.{form-laid}

@@ -1,10 +1,9 @@
 -- `writer::listing::put_rows` meets its contract. Assumes nothing.
-use Prim.Native.Nat.{_+_, _-_, _≤_}
+use Prim.Native.Nat.{_-_, _≤_}
 use mathlib.Core.Path.{_≡_, refl}
 use mathlib.Core.Bool.{true}
 use native.Mathlib.Omega.{arith}
 use lib.ListN.{length, drop}
-use borrow.Author.Needs.{needs}
 use Rattle.format.specs.Structure.{rowsOf}
 use Rattle.format.specs.Table.{decode}
 use Rattle.writer.specs.Printing.{Rests}

@@ -1,8 +1,8 @@
 -- `writer::rows::put_members` meets its contract. Assumes nothing.
 use Prim.Native.Nat.{_+_, _-_, _≤_}
-use mathlib.Core.Path.{_≡_, refl, sym, _∙_, ap}
+use mathlib.Core.Path.{_≡_, refl}
 use native.Mathlib.Omega.{arith}
-use lib.ListN.{length, drop, drop-of-length-le}
+use lib.ListN.{length, drop}
 use borrow.Author.Needs.{needs}
 use Rattle.format.specs.Table.{atomRecords}
 use Rattle.writer.specs.Printing.{Rests}
