@@ -21,6 +21,7 @@ use Rattle.transfer.specs.Shown.{shown}
 use Rattle.transfer.specs.Texts.{titleStart, Titled}
 use Rattle.transfer.proofs.NameLaws.{title-size}
 use Rattle.writer.specs.declared.Answer.{Answer as Written}
+use Rattle.writer.specs.declared.Answer.the-variants as W
 use Rattle.writer.specs.Answers.{shown as shownWrite}
 use Rattle.host.specs.Packed.{packedWalk, packedSpan, packedTitle, packedWritten}
 
@@ -41,11 +42,15 @@ module _ (x : WriteResult) (r k : Written) (b : Bytes) (h : shownWrite r b ≡ x
   written-is : shownWrite k b ≡ x
   written-is = ap (λ (a : Written). shownWrite a b) (sym e) ∙ h
 
-  pub written-packed : packedWritten (shownWrite k b) ≡ packedWritten x
-  written-packed = ap packedWritten written-is
-
   pub written-buffer : shownWrite k b .buffer ≡ x .buffer
   written-buffer = ap (λ (y : WriteResult). y .buffer) written-is
+
+module _ (x : WriteResult) (r : Written) (n : ℕ) (b : Bytes) (h : shownWrite r b ≡ x) where
+  pub count-packed : r ≡ W.Written n → n ≡ packedWritten x
+  count-packed e = omega (arith, ap packedWritten (written-is x r (W.Written n) b h e))
+
+  pub refusal-packed : r ≡ W.Refused n → n * 4294967296 ≡ packedWritten x
+  refusal-packed e = omega (arith, ap packedWritten (written-is x r (W.Refused n) b h e))
 
 -- a title of some bytes
 span-some : (p : ℕ) (t : Bytes) → 0 < length t → packedSpan (spanFrom p t) ≡ packed p (length t)
