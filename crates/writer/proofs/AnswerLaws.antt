@@ -12,12 +12,12 @@ use Rattle.format.specs.Bytes.{Bytes}
 use Rattle.format.specs.Table.{sound}
 use Rattle.format.specs.Writing.{formOf, writtenAs, writeResult}
 use Rattle.tally.specs.Gathering.{Gathers}
-use Rattle.writer.specs.Printing.{after, Laid}
-use Rattle.writer.specs.Forms.{FormLaid}
+use Rattle.printing.specs.Printing.{after, Laid}
+use Rattle.form.specs.Forms.{FormLaid}
 use Rattle.writer.specs.Answers.{shown, SoundWritten, Measured}
 use Rattle.writer.specs.declared.Answer.{Answer}
 use Rattle.writer.specs.declared.Answer.the-variants.{Written, Refused}
-use Rattle.writer.proofs.PrintLaws.{over-whole, after-whole, after-over}
+use Rattle.printing.proofs.PrintLaws.{over-whole, after-whole, after-over}
 use Rattle.writer.proofs.SoundLaws.{sound-printable}
 
 -- HOW LONG A FORM IS, from where its printing ended

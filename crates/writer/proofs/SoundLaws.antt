@@ -20,8 +20,8 @@ use Rattle.format.specs.Table.{decode, encode, spansOf, sameNumber, soundNumber
 use Rattle.format.proofs.ByteLaws.{within-true}
 use Rattle.format.proofs.RowLaws.{row-fine}
 use Rattle.tally.specs.Gathering.{Gathers}
-use Rattle.writer.specs.Listing.{groupsFit}
-use Rattle.writer.specs.Forms.{Printable}
+use Rattle.form.specs.Listing.{groupsFit}
+use Rattle.form.specs.Forms.{Printable}
 
 -- A GROUP IS A BYTE
 letter-small : (g : ℕ) → (upper g || lower g) ≡ true → g < 256

@@ -10,8 +10,8 @@ use lib.Dec.{ltb}
 use Rattle.format.specs.Bytes.{Bytes}
 use Rattle.format.specs.Table.{sound}
 use Rattle.format.specs.Writing.{WriteResult, unwritten, formOf, writtenAs}
-use Rattle.writer.specs.Printing.{after}
-use Rattle.writer.specs.Forms.{Printable}
+use Rattle.printing.specs.Printing.{after}
+use Rattle.form.specs.Forms.{Printable}
 use Rattle.writer.specs.declared.Answer.{Answer}
 use Rattle.writer.specs.declared.Answer.the-variants.{Written, Refused}
 

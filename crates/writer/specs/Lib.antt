@@ -1,8 +1,2 @@
--- What this crate's functions print, in the terms of format/specs, file by file. Assumes nothing.
-pub mod Printing
-pub mod Spelling
-pub mod Lines
-pub mod Listing
-pub mod Entries
-pub mod Forms
+-- What the writer's answers say, in the terms of format/specs, file by file. Assumes nothing.
 pub mod Answers

@@ -10,15 +10,6 @@ use format::Table;
 use soundness::is_sound;
 use tally::gather;
 
-mod form; // form.rt: every record in its order
-mod formula; // formula.rt: the record of the formula
-mod letters; // letters.rt: the table of the elements' letters
-mod listing; // listing.rt: the atoms and the rows of every list
-mod printing; // printing.rt: bytes, texts and numbers
-mod records; // records.rt: texts and the block's number
-mod rows; // rows.rt: one line of each list
-mod symbols; // symbols.rt: an element and its mass
-
 // How many bytes were written, or the refusal's number: 1, 21, 23, 22.
 pub enum Answer {
     Written(usize),

@@ -10,7 +10,7 @@ put-form-requires : tie.Need-put-form-requires
 put-form-requires c κs = search needs
 
 returns : tie.Need-returns
-returns c = λ fit. c .before .put-form .ensures fit .place
+returns c = λ fit. c .before .put-form .ensures (c .before .before .before .before .pre) fit .place
 
 pub measure-spec : {M : Type 1} → statement M
 measure-spec = tie.close (tie.spec slice-aggregate-put-form put-form-requires returns)

@@ -23,7 +23,7 @@ same-length : tie.Need-same-length
 same-length c = search needs
 
 returns-3 : tie.Need-returns-3
-returns-3 c = wrote (c .before .before .before .before .before .before .before .before .before .before .before .before .before .before .before .before .args .table .now) (c .before .before .before .before .before .before .before .before .before .before .before .before .before .before .before .before .args .bytes .now) (c .before .before .before .before .before .before .before .before .before .before .before .before .before .before .before .before .args .buffer .now) _ _ _ (c .before .before .before .before .before .before .before .before .before .before .before .gather .ensures .1) _ (c .before .before .before .before .before .before .before .before .measure .ensures) (c .before .before .before .before .before .before .before .if1 .left) _ _ (c .before .before .before .before .before .before .if2 .left) (c .before .before .put-form .ensures)
+returns-3 c = wrote (c .before .before .before .before .before .before .before .before .before .before .before .before .before .before .before .before .args .table .now) (c .before .before .before .before .before .before .before .before .before .before .before .before .before .before .before .before .args .bytes .now) (c .before .before .before .before .before .before .before .before .before .before .before .before .before .before .before .before .args .buffer .now) _ _ _ (c .before .before .before .before .before .before .before .before .before .before .before .gather .ensures .1) _ (c .before .before .before .before .before .before .before .before .measure .ensures) (c .before .before .before .before .before .before .before .if1 .left) _ _ (c .before .before .before .before .before .before .if2 .left) (c .before .before .put-form .ensures (c .before .before .before .before .before .before .before .before .before .before .before .before .before .before .before .before .pre, c .before .before .before .before .before .before .before .before .before .before .before .gather .ensures .0))
 
 pub write-sound-spec : {M : Type 1} → statement M
 write-sound-spec =

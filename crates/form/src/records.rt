@@ -1,0 +1,66 @@
+// Records with a value: document 01, "The one written form" ("`=` then a space and the value; no space where there is none").
+ghost use mathlib.Core.Path.{_≡_};
+ghost use mathlib.Core.List.{_++_};
+ghost use Prim.Native.Nat.{_+_, _<_, min};
+ghost use lib.ListN.{take, drop};
+ghost use Rattle.format.specs.Table.{cell as cellOf};
+ghost use Rattle.format.specs.Writing.{valued, printId};
+ghost use Rattle.printing.specs.Printing.{Laid};
+use cells::cell;
+use printing::put;
+use printing::put_behind;
+use printing::put_text;
+
+// A label and its value.
+fn put_record(buffer: &mut [u8], at: usize, label: &[u8], value: &[u8]) -> usize
+    ensures { λ r. ⌜ Laid (now (buffer .entry)) at (now (label .entry) ++ valued (now (value .entry))) (now (buffer .exit)) r ⌝ }
+{
+    let named = put_text(buffer, at, label);
+    if value.len() == 0 {
+        return put(buffer, named, 10);
+    }
+    let space = put(buffer, named, 32);
+    let end = put_text(buffer, space, value);
+    put(buffer, end, 10)
+}
+
+// A number of the table, no more than there are bytes.
+fn within(number: u32, most: usize) -> usize
+    ensures { λ r. ⌜ r ≡ min most number ⌝ }
+{
+    let wide = number as usize;
+    if wide < most {
+        return wide;
+    }
+    most
+}
+
+// A label and the text whose start and length stand at `place`.
+pub fn put_span(
+    buffer: &mut [u8],
+    at: usize,
+    label: &[u8],
+    table: &[i32],
+    place: usize,
+    bytes: &[u8],
+) -> usize
+    requires { ⌜ place < 16 ⌝ }
+    ensures { λ r. ⌜ Laid (now (buffer .entry)) at (now (label .entry) ++ valued (take (cellOf (now (table .entry)) (place + 1)) (drop (cellOf (now (table .entry)) place) (now (bytes .entry))))) (now (buffer .exit)) r ⌝ }
+{
+    let from = within(cell(table, place), bytes.len());
+    let size = within(cell(table, place + 1), bytes.len() - from);
+    let to = from + size;
+    put_record(buffer, at, label, &bytes[from..to])
+}
+
+// The block's number, if it has one.
+pub fn put_id(buffer: &mut [u8], at: usize, id: u32) -> usize
+    ensures { λ r. ⌜ Laid (now (buffer .entry)) at (printId id) (now (buffer .exit)) r ⌝ }
+{
+    if id == 0 {
+        return at;
+    }
+    let label = put_text(buffer, at, b"##BLOCK_ID=");
+    let end = put_behind(buffer, label, id);
+    put(buffer, end, 10)
+}

@@ -1,0 +1,29 @@
+-- `printing::symbols::letter` meets its contract. Assumes nothing.
+use Rattle.printing.proofs.LetterTable.{table, letter-in, letter-out}
+use borrow.Author.Needs.{needs}
+use Rattle.printing.proofs.symbols.letter.Statement.{statement}
+use Rattle.printing.proofs.symbols.letter.Tie as tie
+
+one-less-requires : tie.Need-one-less-requires
+one-less-requires c κs = search needs
+
+mul-result : tie.Need-mul-result
+mul-result c = search needs
+
+add-result : tie.Need-add-result
+add-result c = search needs
+
+array-read-result : tie.Need-array-read-result
+array-read-result c = search needs
+
+returns : tie.Need-returns
+unfolding table
+returns c = letter-in _ _ _ (c .before .one-less .ensures) (c .if1 .taken) (c .before .before .pre)
+
+returns-2 : tie.Need-returns-2
+returns-2 c = letter-out _ _ _ (c .before .one-less .ensures) (c .if1 .left)
+
+pub letter-spec : {M : Type 1} → statement M
+letter-spec =
+    tie.close
+    (tie.spec one-less-requires mul-result add-result array-read-result returns returns-2)
