@@ -19,13 +19,13 @@ use Rattle.lists.proofs.RegionLaws.{flat-length, filled-sets}
 use Rattle.format.specs.Bytes.{Bytes, fields}
 use Rattle.format.specs.Rows.{Sym, AtomRow, atomShape}
 use Rattle.format.specs.Structure.{Isotope, Atom, isotope, unknown, massOk}
-use Rattle.scan.specs.ShownSymbols.{symOfMark}
-use Rattle.scan.specs.declared.symbols.Mark.{Mark}
+use Rattle.symbols.specs.ShownSymbols.{symOfMark}
+use Rattle.symbols.specs.declared.Mark.{Mark}
 use Rattle.rows.specs.Answers.{atomRowOf, atomShown, ShowsAtomRow}
-use Rattle.rows.specs.Shown.{isotopeShown}
+use Rattle.elements.specs.Shown.{isotopeShown}
 use Rattle.rows.specs.declared.atom.AtomRow.{AtomRow as AtomAnswer}
 use Rattle.rows.specs.declared.atom.AtomRow.the-variants as A
-use Rattle.rows.specs.declared.elements.Isotope.{Isotope as Answered}
+use Rattle.elements.specs.declared.Isotope.{Isotope as Answered}
 use Rattle.sorted.specs.Steps.{kept, refused, atomAfter, atomStep}
 use Rattle.sorted.specs.Regions.{kindCells, kindsRegion}
 use Rattle.sorted.specs.Shown.{ShowsAfter}

@@ -6,7 +6,7 @@ use Rattle.format.specs.Bytes.{Bytes}
 use Rattle.format.specs.Labels.{Bonds, Charges, Radicals, Centres, Pairs, label, known}
 use Rattle.format.specs.Reading.{State, atomLine, rowLine}
 use Rattle.format.specs.Reading.{Turn as Turned}
-use Rattle.scan.specs.ShownLines.{byCode}
+use Rattle.labels.specs.ShownLines.{byCode}
 use Rattle.gather.specs.Progress.{CountedTurn}
 use Rattle.gather.specs.Shows.{Shows, ShowsTurn}
 use Rattle.gather.specs.ListLine.{listLine}

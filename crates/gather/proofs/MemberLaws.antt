@@ -17,13 +17,13 @@ use Rattle.format.specs.Rows.{number, natural, signed, _andThen_}
 use Rattle.format.specs.Structure.{ranged, ranging}
 use Rattle.format.proofs.ByteLaws.{within-is, within-low, within-high, within-true}
 use Rattle.format.proofs.FieldLaws.{fields-at-end}
-use Rattle.scan.specs.NextFields.{NextField}
-use Rattle.scan.specs.ShownNumbers.{Shows, ShowsSigned, shownNumber, shownSigned}
-use Rattle.scan.specs.declared.fields.Field.{Field}
-use Rattle.scan.specs.declared.numbers.Numeral.{Numeral}
-use Rattle.scan.specs.declared.numbers.Numeral.the-variants as N
-use Rattle.scan.specs.declared.numbers.SignedNumeral.{SignedNumeral}
-use Rattle.scan.specs.declared.numbers.SignedNumeral.the-variants as G
+use Rattle.fields.specs.NextFields.{NextField}
+use Rattle.numbers.specs.ShownNumbers.{Shows, ShowsSigned, shownNumber, shownSigned}
+use Rattle.fields.specs.declared.Field.{Field}
+use Rattle.numbers.specs.declared.Numeral.{Numeral}
+use Rattle.numbers.specs.declared.Numeral.the-variants as N
+use Rattle.numbers.specs.declared.SignedNumeral.{SignedNumeral}
+use Rattle.numbers.specs.declared.SignedNumeral.the-variants as G
 use Rattle.sorted.specs.Regions.{coded}
 use Rattle.gather.specs.Members.{Valued, Coding, ShowsValue, isSome, orZero, isNumber, memberIn, membersIn, NumberAt, ShowsMember, MemberAt, claims, claimed, ShowsClaim}
 use Rattle.gather.specs.declared.spread.SpreadValue.the-variants as S

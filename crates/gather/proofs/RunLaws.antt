@@ -16,14 +16,14 @@ use Rattle.format.specs.Structure.{isotope, massOk}
 use Rattle.format.specs.Reading.{Rules, State, past, atomLine, rowLine, lineStep, readLines}
 use Rattle.format.specs.Reading.{Go as going, Stop as stopping, Turn as Turned}
 use Rattle.format.proofs.ReadingLaws.{Keeps, read-go, atoms-keeps, rows-keeps}
-use Rattle.scan.specs.ShownLines.{byCode}
-use Rattle.scan.specs.ShownSymbols.{symOfMark}
-use Rattle.scan.specs.declared.symbols.Mark.{Mark}
+use Rattle.labels.specs.ShownLines.{byCode}
+use Rattle.symbols.specs.ShownSymbols.{symOfMark}
+use Rattle.symbols.specs.declared.Mark.{Mark}
 use Rattle.rows.specs.Answers.{ShowsAtomRow, ShowsBondRow}
-use Rattle.rows.specs.Shown.{isotopeShown}
+use Rattle.elements.specs.Shown.{isotopeShown}
 use Rattle.rows.specs.declared.atom.AtomRow.the-variants as A
 use Rattle.rows.specs.declared.bond.BondRow.the-variants as B
-use Rattle.rows.specs.declared.elements.Isotope.{Isotope as Answered}
+use Rattle.elements.specs.declared.Isotope.{Isotope as Answered}
 use Rattle.quick.specs.Quick.{lineAt, OneLine, BondIs, AtomIs}
 use Rattle.quick.proofs.StepLaws.{row-step, atom-step}
 use Rattle.sorted.specs.Regions.{topOf}

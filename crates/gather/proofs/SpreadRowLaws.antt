@@ -25,8 +25,8 @@ use Rattle.format.specs.Labels.{ListOf}
 use Rattle.format.specs.Rows.{Row, row, number, numbers, spread, rowShape, _andThen_}
 use Rattle.format.specs.Structure.{most, ranged, meets, clash}
 use Rattle.format.proofs.ByteLaws.{within-is, within-true}
-use Rattle.scan.specs.NextFields.{NextField}
-use Rattle.scan.specs.declared.fields.Field.{Field}
+use Rattle.fields.specs.NextFields.{NextField}
+use Rattle.fields.specs.declared.Field.{Field}
 use Rattle.sorted.specs.Steps.{After, kept, refused, if_breaks_else_, joinedAs, joinAfter, rowAfter, rowStep}
 use Rattle.sorted.specs.Regions.{membersFrom, coded, arrived, voidOf, spreadRegion}
 use Rattle.sorted.specs.Shown.{ShowsAfter}

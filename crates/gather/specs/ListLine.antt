@@ -4,7 +4,7 @@ use mathlib.Core.List.{List}
 use Rattle.format.specs.Bytes.{Bytes}
 use Rattle.format.specs.Labels.{Holds, Text, Version, Formula, BlockId, Atoms, Rows, End, Skipped, known}
 use Rattle.format.specs.Reading.{State, Turn, Go, atomLine, rowLine}
-use Rattle.scan.specs.ShownLines.{byCode}
+use Rattle.labels.specs.ShownLines.{byCode}
 
 abbrev pub heldLine : Holds → (k : ℕ) → State → List Bytes → Turn
 heldLine (Text i) k st fs = Go st

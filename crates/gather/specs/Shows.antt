@@ -6,7 +6,7 @@ use Rattle.format.specs.Bytes.{Bytes}
 use Rattle.format.specs.Labels.{known}
 use Rattle.format.specs.Reading.{State}
 use Rattle.format.specs.Reading.{Go as going, Stop as stopping, Turn as Turned}
-use Rattle.scan.specs.ShownLines.{byCode}
+use Rattle.labels.specs.ShownLines.{byCode}
 use Rattle.sorted.specs.Regions.{topOf}
 use Rattle.gather.specs.Progress.{Holding}
 use Rattle.gather.specs.declared.progress.Progress.{Progress}

@@ -36,7 +36,7 @@ pub fn atom_line(line: &[u8], last: u32, atoms: usize, region: &mut [u32]) -> Ro
     let AtomRow::Values(number, mark, hydrogens) = rows::atom::atom_row(line) else {
         return RowAfter::Stop(9);
     };
-    if !rows::elements::mass_fits(mark) {
+    if !elements::mass_fits(mark) {
         return RowAfter::Stop(10);
     }
     if 15 < hydrogens {
@@ -44,7 +44,7 @@ pub fn atom_line(line: &[u8], last: u32, atoms: usize, region: &mut [u32]) -> Ro
     }
     let place = number as usize;
     let next = atoms + 1;
-    let isotope = rows::elements::isotope_of(mark, last);
+    let isotope = elements::isotope_of(mark, last);
     let element = isotope.element;
     if place != next {
         return RowAfter::Stop(11);

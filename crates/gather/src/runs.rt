@@ -4,11 +4,11 @@ ghost use mathlib.Core.Path.{_≡_};
 ghost use lib.ListN.{length};
 ghost use Rattle.gather.specs.Runs.{AtomsRan, BondsRan};
 use crate::atoms::put_atom;
+use elements::isotope_of;
 use quick::atom::QuickAtom;
 use quick::atom::quick_atom;
 use quick::bond::QuickBond;
 use quick::bond::quick_bond;
-use rows::elements::isotope_of;
 use sorted::after::RowAfter;
 use sorted::keyed::bond_joined;
 

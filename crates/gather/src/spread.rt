@@ -16,8 +16,8 @@ ghost use Rattle.sorted.specs.Regions.{Fits, coded, spreadRegion};
 ghost use Rattle.sorted.specs.Shown.{ShowsAfter};
 ghost use Rattle.sorted.specs.declared.after.RowAfter.the-variants.{Kept};
 ghost use Rattle.gather.specs.Members.{listOf, ShowsValue, ValueOf, isNumber, membersIn, MemberAt, claims, claimed, ShowsClaim};
-use scan::numbers::Numeral;
-use scan::numbers::SignedNumeral;
+use numbers::Numeral;
+use numbers::SignedNumeral;
 use sorted::after::RowAfter;
 
 // The first field: its value as value + 100, 0 where it is beyond its range; or no number.
@@ -37,7 +37,7 @@ pub enum Member {
 fn charge_of(word: &[u8]) -> SpreadValue
     ensures { λ r. ⌜ ShowsValue true (now (word .entry)) r ⌝ }
 {
-    match scan::numbers::signed(word) {
+    match numbers::signed(word) {
         SignedNumeral::Wrong => SpreadValue::Wrong,
         SignedNumeral::Plus(n) => {
             if n < 1 {
@@ -64,7 +64,7 @@ fn charge_of(word: &[u8]) -> SpreadValue
 fn radical_of(word: &[u8]) -> SpreadValue
     ensures { λ r. ⌜ ShowsValue false (now (word .entry)) r ⌝ }
 {
-    let Numeral::Value(n) = scan::numbers::number(word) else {
+    let Numeral::Value(n) = numbers::number(word) else {
         return SpreadValue::Wrong;
     };
     if n < 1 {
@@ -91,13 +91,13 @@ fn member_at(line: &[u8], at: usize) -> Member
     requires { ⌜ at ≤ length (now line) ⌝ }
     ensures { λ r. ⌜ MemberAt (now (line .entry)) at r ⌝ }
 {
-    let field = scan::fields::next_field(line, at);
+    let field = fields::next_field(line, at);
     let from = field.from;
     let to = field.to;
     if from == to {
         return Member::None;
     }
-    let Numeral::Value(n) = scan::numbers::number(&line[from..to]) else {
+    let Numeral::Value(n) = numbers::number(&line[from..to]) else {
         return Member::Wrong;
     };
     Member::Number(n, to)
@@ -236,7 +236,7 @@ pub fn spread_line(
     requires { ⌜ (length (now region) ≡ 321) × (count ≤ 64) × (atoms ≤ 256) ⌝ }
     ensures { λ r. ⌜ (length (now (region .exit)) ≡ 321) × ((c : ℕ) → r ≡ Kept c → c ≤ 64) × ((rs : List Row) → length rs ≡ count → Fits (listOf signed) atoms rs → now (region .entry) ≡ spreadRegion rs → ShowsAfter spreadRegion (now (region .exit)) r (rowStep (listOf signed) atoms rs (fields (now (line .entry))))) ⌝ }
 {
-    let first = scan::fields::next_field(line, 0);
+    let first = fields::next_field(line, 0);
     let from = first.from;
     let to = first.to;
     if from == to {

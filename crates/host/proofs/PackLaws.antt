@@ -15,7 +15,7 @@ use Rattle.format.specs.Writing.{WriteResult}
 use Rattle.format.specs.Walking.{walkAt, titleOf, packed, packedResult}
 use Rattle.reader.specs.declared.Answer.{Answer}
 use Rattle.reader.specs.Answers.{shownRead}
-use Rattle.scan.specs.declared.fields.Field.{Field}
+use Rattle.fields.specs.declared.Field.{Field}
 use Rattle.transfer.specs.declared.walks.Walked.{Walked}
 use Rattle.transfer.specs.Shown.{shown}
 use Rattle.transfer.specs.Texts.{titleStart, Titled}

@@ -10,8 +10,8 @@ use lib.Seq.{sets, length-take-le}
 use Rattle.format.specs.Bytes.{Bytes, lead, trim}
 use Rattle.format.specs.Reading.{spanFrom, spanOf}
 use Rattle.format.specs.Table.{zeros, spanCells}
-use Rattle.scan.specs.Trims.{Trimmed}
-use Rattle.scan.specs.declared.fields.Field.{Field}
+use Rattle.fields.specs.Trims.{Trimmed}
+use Rattle.fields.specs.declared.Field.{Field}
 use Rattle.gather.specs.Progress.{partOf, proseAt, Within}
 use Rattle.gather.specs.declared.progress.Part.{Part}
 use Rattle.gather.specs.declared.progress.Progress.{Progress}

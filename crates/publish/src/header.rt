@@ -41,7 +41,7 @@ fn put_text(part: &mut [i32], at: usize, block: &[u8], text: Part)
 {
     let from = text.from;
     let to = text.to;
-    let kept = scan::texts::trimmed(&block[from..to]);
+    let kept = fields::texts::trimmed(&block[from..to]);
     if kept.from == kept.to {
         fill::put_two(part, at, 0, 0);
         return;

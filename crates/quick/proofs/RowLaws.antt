@@ -14,8 +14,8 @@ use Rattle.format.specs.Labels.{Bonds}
 use Rattle.format.specs.Rows.{upper, lower, symbol, row, firstNumbers, marked, rowShape, atomShape}
 use Rattle.format.proofs.ByteLaws.{upper-bounds}
 use Rattle.format.proofs.SymbolLaws.{symbol-plain, lettered-one, lettered-two, upper-printed, lower-printed}
-use Rattle.scan.specs.declared.symbols.Mark.{Mark}
-use Rattle.scan.specs.ShownSymbols.{symOfMark}
+use Rattle.symbols.specs.declared.Mark.{Mark}
+use Rattle.symbols.specs.ShownSymbols.{symOfMark}
 use Rattle.rows.specs.Answers.{atomRowOf}
 use Rattle.quick.specs.Pieces.{Word, Words, later, feed, NumberIs, EndIs, KindIs, TailIs}
 use Rattle.quick.specs.Quick.{BondIs, ShowsBond, AtomIs, ShowsAtom}

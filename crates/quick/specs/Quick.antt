@@ -12,7 +12,7 @@ use Rattle.lists.specs.Lists.{isNil, all}
 use Rattle.format.specs.Bytes.{Bytes, allowed, cut, fields, strip}
 use Rattle.format.specs.Labels.{Bonds, Plain, lineOf}
 use Rattle.format.specs.Rows.{row, atomShape, rowShape}
-use Rattle.scan.specs.declared.symbols.Mark.{Mark}
+use Rattle.symbols.specs.declared.Mark.{Mark}
 use Rattle.rows.specs.Answers.{atomRowOf}
 use Rattle.quick.specs.declared.atom.QuickAtom.{QuickAtom}
 use Rattle.quick.specs.declared.atom.QuickAtom.the-variants as A

@@ -4,9 +4,9 @@ use crate::parts::NumberAt;
 use crate::parts::Tail;
 use crate::parts::number_at;
 use crate::parts::tail_at;
-use scan::bytes::is_lower;
-use scan::bytes::is_upper;
-use scan::symbols::Mark;
+use alphabet::is_lower;
+use alphabet::is_upper;
+use symbols::Mark;
 
 // An atom's number, its symbol, its implied hydrogens and the next line's place; or no quick row.
 pub enum QuickAtom {

@@ -5,7 +5,7 @@ ghost use Prim.Native.Nat.{_+_, _-_, _<_, _≤_};
 ghost use lib.ListN.{length};
 ghost use Rattle.format.specs.Rows.{digit};
 ghost use Rattle.quick.specs.Pieces.{ShowsNumber, ShowsEnd, ShowsTail};
-use scan::bytes::is_digit;
+use alphabet::is_digit;
 
 // A number and the place behind its space.
 pub enum NumberAt {

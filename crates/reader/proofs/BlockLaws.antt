@@ -20,8 +20,8 @@ use Rattle.format.specs.Reading.{Go as going, Stop as stopping, Turn as Turned}
 use Rattle.format.proofs.AcceptedLaws.{lookup-passes, label-passes}
 use Rattle.format.proofs.CutLaws.{cut-at, cut-nil}
 use Rattle.format.proofs.ReadingLaws.{read-go, read-stop, read-end, Went, further, started, step-went}
-use Rattle.scan.specs.Cuts.{LineEnd}
-use Rattle.scan.specs.ShownLines.{byCode}
+use Rattle.lines.specs.Cuts.{LineEnd}
+use Rattle.labels.specs.ShownLines.{byCode}
 use Rattle.sorted.specs.Regions.{kindsRegion, memberOf, membersFrom, arrived, voidOf, spreadRegion, keyedRegion, seenFrom, topOf}
 use Rattle.sorted.proofs.FitLaws.{fits-nil}
 use Rattle.gather.specs.Progress.{partOf, laid, Within, recounted, Bounded, BoundedTurn, Flowing, FlowingTurn, Listed, entryFine}

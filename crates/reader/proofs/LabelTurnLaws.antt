@@ -16,9 +16,9 @@ use Rattle.format.specs.Bytes.{Bytes, allowed}
 use Rattle.format.specs.Labels.{Bonds, Charges, Radicals, Centres, Pairs, Label, label, known, lookup, misplaced, Plain, Unparted, Labelled, hasCode, lineOf, titleLine}
 use Rattle.format.specs.Reading.{Rules, State, if_stop_else_, noted, opened, over, valueTurn, furtherTurn, lineTurn, lineStep}
 use Rattle.format.proofs.ReadingLaws.{step-byte, step-first, step-on, line-plain, line-unparted}
-use Rattle.scan.specs.ShownLines.{byCode, shownLine, ShowsLine}
-use Rattle.scan.specs.declared.labels.LineKind.{LineKind}
-use Rattle.scan.specs.declared.labels.LineKind.the-variants as K
+use Rattle.labels.specs.ShownLines.{byCode, shownLine, ShowsLine}
+use Rattle.labels.specs.declared.LineKind.{LineKind}
+use Rattle.labels.specs.declared.LineKind.the-variants as K
 use Rattle.sorted.specs.Regions.{seenFrom, topOf}
 use Rattle.gather.specs.Progress.{partOf, laid, Bounded, BoundedTurn, FlowingTurn, altered}
 use Rattle.gather.specs.Shows.{Shows, ShowsTurn}

@@ -16,9 +16,9 @@ use Rattle.format.specs.Formula.{Counted as Told, formulaShape}
 use Rattle.format.specs.Structure.{Atom, rowsOf, unknown, atomOk, entriesOf, agree}
 use Rattle.format.specs.Reading.{State, if_stop_else_, withBody, withId, withFormula, atomCount, versionTurn, idTurn, formulaTurn, blankOr, lacks, endTurn}
 use Rattle.format.specs.Reading.{Go as going, Stop as stopping, Turn as Turned}
-use Rattle.rows.specs.Verdicts.{verdictOf, entriesVerdict, formulaVerdict, turnOf}
-use Rattle.rows.specs.Totals.{formulaEntries}
-use Rattle.rows.proofs.VerdictLaws.{formula-turn}
+use Rattle.molform.specs.Verdicts.{verdictOf, entriesVerdict, formulaVerdict, turnOf}
+use Rattle.molform.specs.Totals.{formulaEntries}
+use Rattle.molform.proofs.VerdictLaws.{formula-turn}
 use Rattle.sorted.specs.Regions.{kindsRegion, seenFrom, Fits}
 use Rattle.gather.specs.Progress.{partOf, countOf, entriesFrom, formulaAt, laid, Counted, Bounded, Listed, entryFine, altered}
 use Rattle.gather.specs.Shows.{Shows, ShowsTurn}

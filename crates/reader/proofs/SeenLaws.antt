@@ -12,7 +12,7 @@ use Rattle.lists.proofs.Bools.{or-left, or-right, both-ways}
 use Rattle.lists.proofs.ListLaws.{any-or}
 use Rattle.format.specs.Labels.{Label, label, known, lookup, misplaced}
 use Rattle.format.specs.Reading.{noted, lacks}
-use Rattle.scan.specs.ShownLines.{byCode}
+use Rattle.labels.specs.ShownLines.{byCode}
 use Rattle.sorted.specs.Regions.{mark, sawCode, seenFrom, topOf}
 
 -- WHERE THE INTERVALS BEGIN AND END, by code

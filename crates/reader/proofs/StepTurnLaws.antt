@@ -14,8 +14,8 @@ use Rattle.format.specs.Labels.{Bonds, Charges, Radicals, Centres, Pairs, Holds
 use Rattle.format.specs.Formula.{formulaShape}
 use Rattle.format.specs.Reading.{Rules, Prose, prose, State, withText, extended, versionTurn, idTurn, formulaTurn, blankOr, endTurn, valueTurn, furtherTurn}
 use Rattle.format.specs.Reading.{Go as going, Turn as Turned}
-use Rattle.scan.specs.Cuts.{Uncommented}
-use Rattle.scan.specs.ShownLines.{byCode}
+use Rattle.lines.specs.Cuts.{Uncommented}
+use Rattle.labels.specs.ShownLines.{byCode}
 use Rattle.gather.specs.Progress.{partOf, proseAt, laid, Within, Counted, CountedTurn, Bounded, BoundedTurn, Flowing, FlowingTurn}
 use Rattle.gather.specs.Shows.{Shows, ShowsTurn}
 use Rattle.gather.specs.ListLine.{listLine}

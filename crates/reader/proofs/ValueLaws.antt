@@ -17,11 +17,11 @@ use Rattle.format.specs.Bytes.{Bytes, bytes, same, gap, fields}
 use Rattle.format.specs.Rows.{field, number}
 use Rattle.format.specs.Reading.{State, Go, Stop, withBody, withId, idValue, idTurn}
 use Rattle.format.proofs.FieldLaws.{fields-gap, fields-first}
-use Rattle.scan.specs.NextFields.{NextField, fieldIn}
-use Rattle.scan.specs.ShownNumbers.{Shows, shownNumber}
-use Rattle.scan.specs.declared.fields.Field.{Field}
-use Rattle.scan.specs.declared.numbers.Numeral.{Numeral}
-use Rattle.scan.specs.declared.numbers.Numeral.the-variants as N
+use Rattle.fields.specs.NextFields.{NextField, fieldIn}
+use Rattle.numbers.specs.ShownNumbers.{Shows, shownNumber}
+use Rattle.fields.specs.declared.Field.{Field}
+use Rattle.numbers.specs.declared.Numeral.{Numeral}
+use Rattle.numbers.specs.declared.Numeral.the-variants as N
 
 -- A LINE WITHOUT FIELDS is a blank one
 pub fields-blank : (s : Bytes) → isNil (fields s) ≡ all gap s

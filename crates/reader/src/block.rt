@@ -11,7 +11,7 @@ use gather::progress::Part;
 use gather::progress::Progress;
 use gather::progress::Turn;
 use gather::rows_run;
-use scan::lines::line_end;
+use lines::line_end;
 
 // A block's judgement: what is known at its end, or the refusal's number and place.
 pub enum Judged {

@@ -10,7 +10,7 @@ ghost use Rattle.format.specs.Bytes.{Bytes, fields};
 ghost use Rattle.format.specs.Labels.{known};
 ghost use Rattle.format.specs.Formula.{formulaShape};
 ghost use Rattle.format.specs.Reading.{State, versionTurn, idTurn, formulaTurn, blankOr, endTurn, valueTurn, furtherTurn, lineStep};
-ghost use Rattle.scan.specs.ShownLines.{byCode};
+ghost use Rattle.labels.specs.ShownLines.{byCode};
 ghost use Rattle.gather.specs.Progress.{partOf, Bounded, BoundedTurn, Flowing, FlowingTurn};
 ghost use Rattle.gather.specs.Shows.{Shows, ShowsTurn};
 ghost use Rattle.gather.specs.declared.progress.Turn.the-variants.{Go};
@@ -26,12 +26,12 @@ use gather::list_turn;
 use gather::progress::Part;
 use gather::progress::Progress;
 use gather::progress::Turn;
-use rows::molform::formula_verdict;
-use scan::labels::LineKind;
-use scan::labels::line_kind;
-use scan::lines::blank;
-use scan::lines::clean;
-use scan::lines::uncommented;
+use labels::LineKind;
+use labels::line_kind;
+use lines::blank;
+use lines::clean;
+use lines::uncommented;
+use molform::formula_verdict;
 use totals::agrees;
 
 // The END line, its value from `from` to `to` without its comment: 8 a record missing, 9 a value, 15 formula and atoms differ.

@@ -6,7 +6,7 @@ ghost use lib.ListN.{length};
 ghost use Rattle.lists.specs.Lists.{any};
 ghost use Rattle.format.specs.Labels.{Label, known, misplaced};
 ghost use Rattle.format.specs.Reading.{noted, lacks};
-ghost use Rattle.scan.specs.ShownLines.{byCode};
+ghost use Rattle.labels.specs.ShownLines.{byCode};
 ghost use Rattle.sorted.specs.Regions.{seenFrom, topOf};
 
 // Where the interval of each label begins and ends, by code; b must follow a where a's interval ends before b's begins.

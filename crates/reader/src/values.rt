@@ -6,11 +6,11 @@ ghost use Rattle.lists.specs.Lists.{isNil};
 ghost use Rattle.format.specs.Bytes.{bytes, same, fields};
 ghost use Rattle.format.specs.Rows.{field};
 ghost use Rattle.reader.specs.Values.{ShowsId};
-use scan::fields::Field;
-use scan::fields::next_field;
-use scan::lines::blank;
-use scan::numbers::Numeral;
-use scan::numbers::number;
+use fields::Field;
+use fields::next_field;
+use lines::blank;
+use numbers::Numeral;
+use numbers::number;
 
 // "JCAMP-CS: `3.7` only."
 pub fn is_version(line: &[u8]) -> bool

@@ -1,13 +1,3 @@
--- The laws that the code of this crate rests on, file by file. Assumes nothing.
-pub mod PlaceLaws
-pub mod TableRule
-pub mod PlaceTable
-pub mod ElementLaws
-pub mod IsotopeLaws
-pub mod StepLaws
-pub mod MoveLaws
-pub mod RunLaws
-pub mod PassLaws
-pub mod VerdictLaws
+-- The laws of this crate's functions, file by file. Assumes nothing.
 pub mod PartLaws
 pub mod ShapeLaws

@@ -16,11 +16,11 @@ use Rattle.lists.proofs.Bools.{torn}
 use Rattle.lists.proofs.ListLaws.{nil-is}
 use Rattle.format.specs.Bytes.{Bytes, fields}
 use Rattle.format.specs.Rows.{_andThen_, number, field, optional, firstNumbers}
-use Rattle.scan.specs.NextFields.{fieldIn, NextField}
-use Rattle.scan.specs.ShownNumbers.{shownNumber, Shows}
-use Rattle.scan.specs.declared.fields.Field.{Field}
-use Rattle.scan.specs.declared.numbers.Numeral.{Numeral}
-use Rattle.scan.specs.declared.numbers.Numeral.the-variants as N
+use Rattle.fields.specs.NextFields.{fieldIn, NextField}
+use Rattle.numbers.specs.ShownNumbers.{shownNumber, Shows}
+use Rattle.fields.specs.declared.Field.{Field}
+use Rattle.numbers.specs.declared.Numeral.{Numeral}
+use Rattle.numbers.specs.declared.Numeral.the-variants as N
 use Rattle.rows.specs.Parts.{Behind, AtomIs, ShowsAtom, TwoAre, ShowsTwo, OneLeft, ShowsOnly}
 use Rattle.rows.specs.declared.parts.AtomAt.{AtomAt}
 use Rattle.rows.specs.declared.parts.AtomAt.the-variants as A

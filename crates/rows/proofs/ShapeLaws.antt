@@ -12,15 +12,15 @@ use Rattle.lists.specs.Lists.{isNil}
 use Rattle.lists.proofs.Bools.{torn}
 use Rattle.format.specs.Bytes.{Bytes, bytes, fields}
 use Rattle.format.specs.Rows.{_andThen_, number, symbol, field, optional, nothingMore, placeIn, firstNumbers, atomShape, row, marked}
-use Rattle.scan.specs.NextFields.{fieldIn, NextField}
-use Rattle.scan.specs.ShownNumbers.{Shows}
-use Rattle.scan.specs.ShownSymbols.{symOfMark, shownSymbol, ShowsSymbol}
-use Rattle.scan.specs.declared.fields.Field.{Field}
-use Rattle.scan.specs.declared.numbers.Numeral.{Numeral}
-use Rattle.scan.specs.declared.numbers.Numeral.the-variants as N
-use Rattle.scan.specs.declared.symbols.Mark.{Mark}
-use Rattle.scan.specs.declared.symbols.Spelling.{Spelling}
-use Rattle.scan.specs.declared.symbols.Spelling.the-variants as S
+use Rattle.fields.specs.NextFields.{fieldIn, NextField}
+use Rattle.numbers.specs.ShownNumbers.{Shows}
+use Rattle.symbols.specs.ShownSymbols.{symOfMark, shownSymbol, ShowsSymbol}
+use Rattle.fields.specs.declared.Field.{Field}
+use Rattle.numbers.specs.declared.Numeral.{Numeral}
+use Rattle.numbers.specs.declared.Numeral.the-variants as N
+use Rattle.symbols.specs.declared.Mark.{Mark}
+use Rattle.symbols.specs.declared.Spelling.{Spelling}
+use Rattle.symbols.specs.declared.Spelling.the-variants as S
 use Rattle.rows.specs.Parts.{Behind, AtomIs}
 use Rattle.rows.specs.Answers.{atomRowOf}
 use Rattle.rows.proofs.PartLaws.{shows-value, shows-wrong, field-behind, behind-next, behind-one}

@@ -5,8 +5,8 @@ use mathlib.Core.Option.{Option, none, some}
 use mathlib.Core.List.{[], _∷_}
 use lib.IntN.{pos}
 use Rattle.format.specs.Rows.{AtomRow, Row, row}
-use Rattle.scan.specs.ShownSymbols.{symOfMark}
-use Rattle.scan.specs.declared.symbols.Mark.{Mark}
+use Rattle.symbols.specs.ShownSymbols.{symOfMark}
+use Rattle.symbols.specs.declared.Mark.{Mark}
 use Rattle.rows.specs.declared.atom.AtomRow.{AtomRow as AtomAnswer}
 use Rattle.rows.specs.declared.atom.AtomRow.the-variants as A
 use Rattle.rows.specs.declared.bond.BondRow.{BondRow}

@@ -1,9 +1,3 @@
--- How the code's values are shown as those of the definitions, file by file. Assumes nothing.
-pub mod Spelling
-pub mod Shown
-pub mod Machine
-pub mod Verdicts
-pub mod Totals
-pub mod Passes
+-- What the answers of this crate's functions say, in the terms of format/specs, file by file. Assumes nothing.
 pub mod Parts
 pub mod Answers

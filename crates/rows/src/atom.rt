@@ -5,11 +5,11 @@ ghost use Rattle.rows.specs.Answers.{ShowsAtomRow};
 use crate::parts::AtomAt;
 use crate::parts::atom_at;
 use crate::parts::last_number;
-use scan::fields::next_field;
-use scan::numbers::Numeral;
-use scan::symbols::Mark;
-use scan::symbols::Spelling;
-use scan::symbols::symbol;
+use fields::next_field;
+use numbers::Numeral;
+use symbols::Mark;
+use symbols::Spelling;
+use symbols::symbol;
 
 // An atom's number, its symbol and its implied hydrogens, or no shape of a row.
 pub enum AtomRow {

@@ -6,9 +6,9 @@ ghost use Rattle.rows.specs.Answers.{ShowsBondRow};
 use crate::parts::TwoAtoms;
 use crate::parts::at_end;
 use crate::parts::two_atoms;
-use scan::fields::next_field;
-use scan::groups::bond_kind;
-use scan::numbers::Numeral;
+use fields::next_field;
+use numbers::Numeral;
+use symbols::groups::bond_kind;
 
 // Two atoms and the kind, 1 to 5 for S, D, T, Q, A, or no shape of a row.
 pub enum BondRow {

@@ -6,9 +6,9 @@ ghost use Rattle.rows.specs.Answers.{ShowsCentreRow};
 use crate::parts::AtomAt;
 use crate::parts::atom_at;
 use crate::parts::last_group;
-use scan::fields::next_field;
-use scan::groups::hand;
-use scan::numbers::Numeral;
+use fields::next_field;
+use numbers::Numeral;
+use symbols::groups::hand;
 
 // An atom, 1 for P or 2 for M, and the group's byte (0 for `0`), or no shape of a row.
 pub enum CentreRow {

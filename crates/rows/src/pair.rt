@@ -6,9 +6,9 @@ ghost use Rattle.rows.specs.Answers.{ShowsPairRow};
 use crate::parts::TwoAtoms;
 use crate::parts::last_group;
 use crate::parts::two_atoms;
-use scan::fields::next_field;
-use scan::groups::pair_hand;
-use scan::numbers::Numeral;
+use fields::next_field;
+use numbers::Numeral;
+use symbols::groups::pair_hand;
 
 // Two atoms, 0, 1 for P or 2 for M, and the group's byte (0 for `0`), or no shape of a row.
 pub enum PairRow {

@@ -5,12 +5,12 @@ ghost use lib.ListN.{length, drop};
 ghost use Rattle.lists.specs.Lists.{isNil};
 ghost use Rattle.format.specs.Bytes.{fields};
 ghost use Rattle.format.specs.Rows.{optional, number, group};
-ghost use Rattle.scan.specs.ShownNumbers.{Shows};
+ghost use Rattle.numbers.specs.ShownNumbers.{Shows};
 ghost use Rattle.rows.specs.Parts.{ShowsAtom, ShowsTwo, ShowsOnly};
-use scan::fields::next_field;
-use scan::groups::group;
-use scan::numbers::Numeral;
-use scan::numbers::number;
+use fields::next_field;
+use numbers::Numeral;
+use numbers::number;
+use symbols::groups::group;
 
 // An atom's number and where its field ends, or no shape of one.
 pub enum AtomAt {

@@ -20,8 +20,8 @@ use Rattle.format.specs.Labels.{ListOf, Bonds, Charges, Radicals, Centres, Pair
 use Rattle.format.specs.Rows.{Row, rowShape}
 use Rattle.format.specs.Structure.{most, ranged}
 use Rattle.format.specs.Reading.{ordered}
-use Rattle.scan.specs.NextFields.{NextField}
-use Rattle.scan.specs.declared.fields.Field.{Field}
+use Rattle.fields.specs.NextFields.{NextField}
+use Rattle.fields.specs.declared.Field.{Field}
 use Rattle.sorted.specs.Steps.{kept, refused, joinAfter, rowAfter, rowStep}
 use Rattle.sorted.specs.Regions.{payloadOf}
 use Rattle.sorted.specs.Keyed.{keyed, drops, JoinShows, RowShows, LineShows}

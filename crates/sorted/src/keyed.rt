@@ -19,7 +19,7 @@ use rows::pair::PairRow;
 pub fn is_bare(line: &[u8]) -> bool
     ensures { λ r. ⌜ r ≡ isNil (fields (now (line .entry))) ⌝ }
 {
-    let first = scan::fields::next_field(line, 0);
+    let first = fields::next_field(line, 0);
     first.from == first.to
 }
 

@@ -21,8 +21,8 @@ use Rattle.format.specs.Reading.{Span}
 use Rattle.format.specs.Table.{cell, spanAt, spansOf, textFine, textAt, textOk, spanOk}
 use Rattle.format.proofs.ByteLaws.{label-at, label-at-end, unlabelled-cons}
 use Rattle.format.proofs.TextLaws.{trim-nil}
-use Rattle.scan.specs.declared.fields.Field.{Field}
-use Rattle.scan.specs.Trims.{Trimmed}
+use Rattle.fields.specs.declared.Field.{Field}
+use Rattle.fields.specs.Trims.{Trimmed}
 use Rattle.soundness.specs.Spans.{span, labelAfter}
 
 -- A LABEL LINE INSIDE, by an index

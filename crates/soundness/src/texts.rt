@@ -44,11 +44,11 @@ fn plain(text: &[u8]) -> bool
 fn fine(text: &[u8]) -> bool
     ensures { λ r. ⌜ r ≡ textFine (now (text .entry)) ⌝ }
 {
-    let kept = scan::texts::trimmed(text);
+    let kept = fields::texts::trimmed(text);
     if kept.to - kept.from < text.len() {
         return false;
     }
-    if !scan::lines::clean(text) {
+    if !lines::clean(text) {
         return false;
     }
     plain(text)

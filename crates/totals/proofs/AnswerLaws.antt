@@ -20,16 +20,16 @@ use Rattle.format.specs.Structure.{Isotope, isotope, Atom, atomOk, Entry, entry
 use Rattle.format.proofs.ByteLaws.{within-true, within-is}
 use Rattle.format.proofs.FormulaLaws.{run-at-end, formula-is}
 use Rattle.format.proofs.TotalLaws.{total-nil, total-append, agree-every, every-agree, entries-append}
-use Rattle.scan.specs.ShownSymbols.{symOfMark}
-use Rattle.scan.specs.declared.symbols.Mark.{Mark}
-use Rattle.rows.specs.Machine.{stateShown, closeShown, Sized, Stepped}
-use Rattle.rows.specs.declared.formula.State.{State}
-use Rattle.rows.specs.declared.formula.State.the-variants.{Between}
-use Rattle.rows.specs.declared.formula.Move.{Move as Step}
-use Rattle.rows.specs.declared.formula.Move.the-variants.{Still, Tells}
-use Rattle.rows.specs.declared.formula.Close.{Close}
-use Rattle.rows.specs.declared.formula.Close.the-variants.{Unshaped, Nothing, Last}
-use Rattle.rows.proofs.RunLaws.{still-run, still-sized, tells-run, tells-sized}
+use Rattle.symbols.specs.ShownSymbols.{symOfMark}
+use Rattle.symbols.specs.declared.Mark.{Mark}
+use Rattle.formula.specs.Machine.{stateShown, closeShown, Sized, Stepped}
+use Rattle.formula.specs.declared.State.{State}
+use Rattle.formula.specs.declared.State.the-variants.{Between}
+use Rattle.formula.specs.declared.Move.{Move as Step}
+use Rattle.formula.specs.declared.Move.the-variants.{Still, Tells}
+use Rattle.formula.specs.declared.Close.{Close}
+use Rattle.formula.specs.declared.Close.the-variants.{Unshaped, Nothing, Last}
+use Rattle.formula.proofs.RunLaws.{still-run, still-sized, tells-run, tells-sized}
 use Rattle.sorted.specs.Regions.{kindsRegion}
 use Rattle.gather.specs.Progress.{entriesFrom, entryFine}
 use Rattle.totals.specs.Left.{Takes, Took, Counts, Tallied, Says, Answers, Answered}

@@ -6,8 +6,8 @@ use mathlib.Core.List.{_∷_}
 use Rattle.format.specs.Bytes.{Bytes}
 use Rattle.format.specs.Formula.{frun}
 use Rattle.format.specs.Structure.{Isotope}
-use Rattle.rows.specs.Machine.{stateShown, Sized}
-use Rattle.rows.specs.declared.formula.State.{State}
+use Rattle.formula.specs.Machine.{stateShown, Sized}
+use Rattle.formula.specs.declared.State.{State}
 use Rattle.totals.specs.Left.{Answers}
 use Rattle.totals.specs.declared.Taken.{Taken}
 use Rattle.totals.specs.declared.Taken.the-variants.{On, Short}

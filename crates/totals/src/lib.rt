@@ -9,19 +9,19 @@ ghost use lib.ListN.{length, getD, set, drop};
 ghost use Rattle.lists.specs.Lists.{all};
 ghost use Rattle.format.specs.Formula.{finish, formulaShape};
 ghost use Rattle.format.specs.Structure.{Atom, atomOk, isotopeOf, isotope, entry, entriesOf, agree};
-ghost use Rattle.scan.specs.ShownSymbols.{symOfMark};
-ghost use Rattle.rows.specs.Machine.{stateShown, Sized};
+ghost use Rattle.symbols.specs.ShownSymbols.{symOfMark};
+ghost use Rattle.formula.specs.Machine.{stateShown, Sized};
 ghost use Rattle.sorted.specs.Regions.{kindsRegion};
 ghost use Rattle.gather.specs.Progress.{entriesFrom, entryFine};
 ghost use Rattle.totals.specs.Taking.{TookByte};
 ghost use Rattle.totals.specs.Left.{leftOf, isZero, Blank, Adds, Takes, Took, Counts, Says, Tallied, Answered, cellOf};
-use rows::elements::isotope_of;
-use rows::formula::Close;
-use rows::formula::Move;
-use rows::formula::State;
-use rows::formula::formula_end;
-use rows::formula::formula_step;
-use scan::symbols::Mark;
+use elements::isotope_of;
+use formula::Close;
+use formula::Move;
+use formula::State;
+use formula::formula_end;
+use formula::formula_step;
+use symbols::Mark;
 
 // The machine behind a byte, the entry taken that ended there; or that an entry asks for more than is left.
 pub enum Taken {

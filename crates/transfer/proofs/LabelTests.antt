@@ -10,9 +10,9 @@ use Rattle.lists.proofs.Bools.{and-left-false}
 use Rattle.format.specs.Bytes.{Bytes, hash, isLabel}
 use Rattle.format.specs.Walking.{valueOf}
 use Rattle.format.proofs.ByteLaws.{label-at, label-at-end}
-use Rattle.scan.specs.declared.labels.LineKind.{LineKind}
-use Rattle.scan.specs.declared.labels.LineKind.the-variants as K
-use Rattle.scan.specs.ShownLines.{ShowsLine, shownLine}
+use Rattle.labels.specs.declared.LineKind.{LineKind}
+use Rattle.labels.specs.declared.LineKind.the-variants as K
+use Rattle.labels.specs.ShownLines.{ShowsLine, shownLine}
 use Rattle.transfer.specs.Texts.{ValueAt}
 
 module _ (l : Bytes) where

@@ -17,9 +17,9 @@ use Rattle.format.specs.Labels.{lineOf, titleLine}
 use Rattle.format.specs.Walking.{untilLabel, valueOf, titleOf, orElse, nameOf}
 use Rattle.format.proofs.CutLaws.{cut-nil, cut-at, concat-cut, lineLen-le}
 use Rattle.format.proofs.WalkLaws.{plain-no-title}
-use Rattle.scan.specs.declared.fields.Field.{Field}
-use Rattle.scan.specs.NextFields.{fieldIn}
-use Rattle.scan.specs.Trims.{Trimmed}
+use Rattle.fields.specs.declared.Field.{Field}
+use Rattle.fields.specs.NextFields.{fieldIn}
+use Rattle.fields.specs.Trims.{Trimmed}
 use Rattle.transfer.specs.Skipping.{skipped}
 use Rattle.transfer.specs.Texts.{textTo, TextEnd, ValueAt, Titled}
 use Rattle.transfer.proofs.SkipLaws.{skip-plain}

@@ -9,10 +9,10 @@ use Rattle.format.specs.Bytes.{Bytes, lineLen}
 use Rattle.format.specs.Labels.{titleLine, endLine}
 use Rattle.format.specs.Walking.{outside, inBlock, inStray, block, stray, piece, Walked, Found, Finished, walkAt}
 use Rattle.format.proofs.WalkLaws.{ahead, ahead-end, walk-on, first-title, first-other, block-title, block-end, block-on, stray-title, stray-on}
-use Rattle.scan.specs.declared.labels.LineKind.{LineKind}
-use Rattle.scan.specs.declared.labels.LineKind.the-variants as K
-use Rattle.scan.specs.ShownLines.{ShowsLine}
-use Rattle.scan.proofs.LabelLaws.{title-told, end-told}
+use Rattle.labels.specs.declared.LineKind.{LineKind}
+use Rattle.labels.specs.declared.LineKind.the-variants as K
+use Rattle.labels.specs.ShownLines.{ShowsLine}
+use Rattle.labels.proofs.LabelLaws.{title-told, end-told}
 use Rattle.transfer.specs.Codes.{Coded}
 use Rattle.transfer.specs.Skipping.{skipped}
 use Rattle.transfer.proofs.SkipLaws.{skip-block, skip-stray}

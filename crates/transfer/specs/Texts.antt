@@ -8,8 +8,8 @@ use lib.ListN.{length, drop}
 use Rattle.format.specs.Bytes.{Bytes, cut, lead}
 use Rattle.format.specs.Labels.{lineOf, titleLine}
 use Rattle.format.specs.Walking.{untilLabel, valueOf, titleOf}
-use Rattle.scan.specs.declared.fields.Field.{Field}
-use Rattle.scan.specs.NextFields.{fieldIn}
+use Rattle.fields.specs.declared.Field.{Field}
+use Rattle.fields.specs.NextFields.{fieldIn}
 
 -- the place where a text ends that goes on at a place with some lines
 unfoldable pub textTo : (at : ℕ) → List Bytes → ℕ

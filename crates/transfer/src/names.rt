@@ -3,8 +3,8 @@ ghost use mathlib.Core.Path.{_≡_};
 ghost use Rattle.format.specs.Bytes.{isLabel};
 ghost use Rattle.format.specs.Walking.{nameOf};
 ghost use Rattle.transfer.specs.Texts.{TextEnd, Titled, ValueAt};
-use scan::fields::Field;
-use scan::labels::LineKind;
+use fields::Field;
+use labels::LineKind;
 
 // Whether a line is a label line: "A label line starts with `##` in its first column".
 fn is_label(line: &[u8]) -> bool
@@ -25,7 +25,7 @@ fn text_end(block: &[u8], at: usize) -> usize
 {
     let mut i = crate::skips::skip_to_label(block, at, false);
     while i < block.len() {
-        let next = scan::lines::line_end(block, i);
+        let next = lines::line_end(block, i);
         if is_label(&block[i..next]) {
             return i;
         }
@@ -38,7 +38,7 @@ fn text_end(block: &[u8], at: usize) -> usize
 fn value_at(line: &[u8]) -> usize
     ensures { λ r. ⌜ ValueAt (now (line .entry)) r ⌝ }
 {
-    match scan::labels::line_kind(line) {
+    match labels::line_kind(line) {
         LineKind::Plain => line.len(),
         LineKind::Unparted => line.len(),
         LineKind::Labelled(_, from) => from,
@@ -49,14 +49,14 @@ fn value_at(line: &[u8]) -> usize
 pub fn title(block: &[u8]) -> Field
     ensures { λ r. ⌜ Titled (now (block .entry)) r ⌝ }
 {
-    let end = scan::lines::line_end(block, 0);
-    if !scan::labels::is_title_line(&block[0..end]) {
+    let end = lines::line_end(block, 0);
+    if !labels::is_title_line(&block[0..end]) {
         return Field { from: 0, to: 0 };
     }
     let from = value_at(&block[0..end]);
     let to = text_end(block, end);
     let text = &block[from..to];
-    let kept = scan::texts::trimmed(text);
+    let kept = fields::texts::trimmed(text);
     Field {
         from: from + kept.from,
         to: from + kept.to,

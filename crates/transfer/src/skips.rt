@@ -22,10 +22,10 @@ fn is_foreign(b: u8) -> bool
     if b == 101 {
         return false;
     }
-    if scan::bytes::is_upper(b) {
+    if alphabet::is_upper(b) {
         return true;
     }
-    scan::bytes::is_lower(b)
+    alphabet::is_lower(b)
 }
 
 // Whether a line that starts at `i` is looked at: it starts with `#`, and where only TITLE and END count, the first byte of its label is no letter of another.

@@ -4,7 +4,7 @@ ghost use Rattle.format.specs.Walking.{walkAt, inBlock, inStray, Found, piece, 
 ghost use Rattle.format.proofs.WalkLaws.{ahead};
 ghost use Rattle.transfer.specs.Codes.{Coded};
 ghost use Rattle.transfer.specs.Shown.{shown};
-use scan::labels::LineKind;
+use labels::LineKind;
 
 // What the walk finds: a block or a stray run, each from its first byte up to a place, or the end of the file, or a refusal.
 pub enum Walked {
@@ -18,7 +18,7 @@ pub enum Walked {
 fn label_code(line: &[u8]) -> u8
     ensures { λ r. ⌜ Coded (now (line .entry)) r ⌝ }
 {
-    match scan::labels::line_kind(line) {
+    match labels::line_kind(line) {
         LineKind::Plain => 0,
         LineKind::Unparted => 0,
         LineKind::Labelled(code, _) => code,
@@ -31,7 +31,7 @@ fn block_end(file: &[u8], place: usize, at: usize) -> usize
 {
     let mut i = crate::skips::skip_to_label(file, at, true);
     while i < file.len() {
-        let end = scan::lines::line_end(file, i);
+        let end = lines::line_end(file, i);
         let code = label_code(&file[i..end]);
         if code == 1 {
             return i;
@@ -50,7 +50,7 @@ fn stray_end(file: &[u8], place: usize, at: usize) -> usize
 {
     let mut title = crate::skips::skip_to_label(file, at, true);
     while title < file.len() {
-        let next = scan::lines::line_end(file, title);
+        let next = lines::line_end(file, title);
         if label_code(&file[title..next]) == 1 {
             return title;
         }
@@ -73,7 +73,7 @@ pub fn walk(file: &[u8], place: usize) -> Walked
     if place == file.len() {
         return Walked::Finished;
     }
-    let end = scan::lines::line_end(file, place);
+    let end = lines::line_end(file, place);
     if label_code(&file[place..end]) == 1 {
         let to = block_end(file, place, end);
         return Walked::Block(place, to);

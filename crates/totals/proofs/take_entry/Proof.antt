@@ -1,5 +1,5 @@
 -- `totals::take_entry` meets its contract. Assumes nothing.
-use Rattle.scan.specs.ShownSymbols.{symOfMark}
+use Rattle.symbols.specs.ShownSymbols.{symOfMark}
 use Rattle.totals.proofs.AnswerLaws.{entry-taken}
 use borrow.Author.Needs.{needs}
 use Rattle.totals.proofs.take_entry.Statement.{statement}

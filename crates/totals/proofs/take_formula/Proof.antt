@@ -3,7 +3,7 @@ use Prim.Native.Nat.{_-_}
 use mathlib.Core.Path.{_≡_}
 use borrow.Author.Needs.{needs}
 use lib.ListN.{length}
-use Rattle.rows.specs.Machine.{Sized}
+use Rattle.formula.specs.Machine.{Sized}
 use Rattle.totals.specs.Left.{leftOf}
 use Rattle.totals.proofs.AnswerLaws.{Owing, owing-starts, owing-goes, owing-sized, owing-short, owing-ends}
 use Rattle.totals.proofs.take_formula.Statement.{statement}

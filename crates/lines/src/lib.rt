@@ -1,0 +1,79 @@
+// Lines of a block, and what one line holds.
+ghost use mathlib.Core.Path.{_≡_};
+ghost use Prim.Native.Nat.{_<_};
+ghost use lib.ListN.{length, drop};
+ghost use Rattle.lists.specs.Lists.{all};
+ghost use Rattle.format.specs.Bytes.{allowed, gap};
+ghost use Rattle.lines.specs.Cuts.{comment, LineEnd, Uncommented};
+
+// Where the line that starts at `at` ends, its line feed counted: "A line ends with a line feed (10) or with the input".
+pub fn line_end(block: &[u8], at: usize) -> usize
+    ensures { λ r. ⌜ LineEnd (now (block .entry)) at r ⌝ }
+{
+    let mut i = at;
+    while i < block.len() {
+        if block[i] == 10 {
+            return i + 1;
+        }
+        i += 1;
+    }
+    i
+}
+
+// Whether each byte of the line is allowed: "Allowed bytes: 9, 10, 13 and 32 to 126."
+pub fn clean(line: &[u8]) -> bool
+    ensures { λ r. ⌜ r ≡ all allowed (now (line .entry)) ⌝ }
+{
+    let mut i = 0;
+    while i < line.len() {
+        if !alphabet::is_allowed(line[i]) {
+            return false;
+        }
+        i += 1;
+    }
+    true
+}
+
+// Whether the line holds blanks and line feeds alone.
+pub fn blank(line: &[u8]) -> bool
+    ensures { λ r. ⌜ r ≡ all gap (now (line .entry)) ⌝ }
+{
+    let mut i = 0;
+    while i < line.len() {
+        if !alphabet::is_gap(line[i]) {
+            return false;
+        }
+        i += 1;
+    }
+    true
+}
+
+// Whether `$$` stands at `at`.
+fn comment_at(line: &[u8], at: usize) -> bool
+    ensures { λ r. ⌜ r ≡ comment (drop at (now (line .entry))) ⌝ }
+{
+    if line.len() <= at {
+        return false;
+    }
+    if line[at] != 36 {
+        return false;
+    }
+    if line.len() <= at + 1 {
+        return false;
+    }
+    line[at + 1] == 36
+}
+
+// How much of the line stands before its comment: "Other known records lose `$$` and the rest of that line".
+pub fn uncommented(line: &[u8]) -> usize
+    ensures { λ r. ⌜ Uncommented (now (line .entry)) r ⌝ }
+{
+    let mut i = 0;
+    while i < line.len() {
+        if comment_at(line, i) {
+            return i;
+        }
+        i += 1;
+    }
+    i
+}

@@ -1,0 +1,57 @@
+-- `numbers::digit_end` meets its contract. Assumes nothing.
+use Prim.Native.Nat.{_+_, _-_}
+use mathlib.Core.Path.{_≡_, refl, sym, _∙_}
+use borrow.Author.Needs.{needs}
+use borrow.Author.Tests.{not-true, not-false}
+use lib.ListN.{length, drop}
+use Rattle.lists.specs.Lists.{span}
+use Rattle.lists.proofs.ListLaws.{span-in, span-out, span-end}
+use Rattle.format.specs.Rows.{digit}
+use Rattle.alphabet.proofs.RunLaws.{runs}
+use Rattle.numbers.proofs.digit_end.Statement.{statement}
+use Rattle.numbers.proofs.digit_end.Tie as tie
+
+abbrev Inv-loop : tie.InvT-loop
+Inv-loop word at i₀ i = at + span digit (drop at word) ≡ i + span digit (drop i word)
+
+abbrev μ-loop : tie.MeasureT-loop
+μ-loop word at i₀ i = length word - i
+
+loop-holds : tie.Need-loop-holds Inv-loop μ-loop
+loop-holds c = refl
+
+shared-slice-read-is-digit : tie.Need-shared-slice-read-is-digit Inv-loop μ-loop
+shared-slice-read-is-digit c = search needs
+
+is-digit-requires : tie.Need-is-digit-requires Inv-loop μ-loop
+is-digit-requires c κs = search needs
+
+returns : tie.Need-returns Inv-loop μ-loop
+returns c = runs _ _ _ _ (sym (c .before .before .before .before .loop .inv ∙ span-out digit 0 _ _ (c .before .before .before .loop-test .taken) (sym (c .before .is-digit .ensures) ∙ not-true _ (c .if1 .taken))))
+
+add-i : tie.Need-add-i Inv-loop μ-loop
+add-i c = search needs
+
+loop-less : tie.Need-loop-less Inv-loop μ-loop
+loop-less c = search needs
+
+loop-again : tie.Need-loop-again Inv-loop μ-loop
+loop-again c = c .before .before .before .before .loop .inv ∙ span-in digit 0 _ _ (c .before .before .before .loop-test .taken) (sym (c .before .is-digit .ensures) ∙ not-false _ (c .if1 .left))
+
+returns-2 : tie.Need-returns-2 Inv-loop μ-loop
+returns-2 c = runs _ _ _ _ (sym (c .before .loop .inv ∙ span-end digit _ _ (c .loop-test .left)))
+
+pub digit-end-spec : {M : Type 1} → statement M
+digit-end-spec =
+    tie.close
+    (tie.spec
+    Inv-loop
+    μ-loop
+    loop-holds
+    shared-slice-read-is-digit
+    is-digit-requires
+    returns
+    add-i
+    loop-less
+    loop-again
+    returns-2)
