@@ -12,4 +12,3 @@ pub mod LaidLaws
 pub mod RegionsLaws
 pub mod TestLaws
 pub mod RegionTests
-pub mod TextSpanLaws

@@ -1,4 +1,3 @@
 -- What the answers of this crate's functions say, in the terms of format/specs, file by file. Assumes nothing.
 pub mod Numbered
 pub mod Sounding
-pub mod Spans

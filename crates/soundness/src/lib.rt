@@ -6,6 +6,7 @@ ghost use lib.ListN.{length};
 ghost use lib.Dec.{leb};
 ghost use Rattle.format.specs.Table.{sound};
 use format::Table;
+use texts::texts_fine;
 
 mod atoms; // atoms.rt: the atoms' records
 mod header; // header.rt: the counts, the texts' places, the three zeros
@@ -14,7 +15,6 @@ mod numbered; // numbered.rt: the order of charge and radical rows
 mod numbers; // numbers.rt: all regions
 mod parts; // parts.rt: every number of a part
 mod spread; // spread.rt: charges and radicals
-mod texts; // texts.rt: the texts that a table names
 
 // Whether the table is sound with the bytes that its texts stand in. One shorter than 3,856 numbers is not.
 pub fn is_sound(table: &[i32], bytes: &[u8]) -> bool
@@ -26,5 +26,5 @@ pub fn is_sound(table: &[i32], bytes: &[u8]) -> bool
     if !numbers::numbers_sound(table) {
         return false;
     }
-    texts::texts_fine(table, bytes)
+    texts_fine(table, bytes)
 }

@@ -23,7 +23,7 @@ use Rattle.format.proofs.ByteLaws.{label-at, label-at-end, unlabelled-cons}
 use Rattle.format.proofs.TextLaws.{trim-nil}
 use Rattle.fields.specs.declared.Field.{Field}
 use Rattle.fields.specs.Trims.{Trimmed}
-use Rattle.soundness.specs.Spans.{span, labelAfter}
+use Rattle.texts.specs.Spans.{span, labelAfter}
 
 -- A LABEL LINE INSIDE, by an index
 module _ (s : Bytes) (i : ℕ) (h : i < length s) where

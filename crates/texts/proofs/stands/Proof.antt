@@ -1,9 +1,9 @@
--- `soundness::texts::stands` meets its contract. Assumes nothing.
+-- `texts::stands` meets its contract. Assumes nothing.
 use mathlib.Core.Path.{sym, _∙_}
-use Rattle.soundness.proofs.TextSpanLaws.{ok-empty, ok-outside, ok-inside}
+use Rattle.texts.proofs.TextSpanLaws.{ok-empty, ok-outside, ok-inside}
 use borrow.Author.Needs.{needs}
-use Rattle.soundness.proofs.texts.stands.Statement.{statement}
-use Rattle.soundness.proofs.texts.stands.Tie as tie
+use Rattle.texts.proofs.stands.Statement.{statement}
+use Rattle.texts.proofs.stands.Tie as tie
 
 returns : tie.Need-returns
 returns c = sym (ok-empty _ _ _ (c .if1 .taken))

@@ -1,11 +1,11 @@
--- `soundness::texts::texts_fine` meets its contract. Assumes nothing.
+-- `texts::texts_fine` meets its contract. Assumes nothing.
 use mathlib.Core.Path.{sym, _∙_}
 use borrow.Author.Tests.{not-true, not-false}
 use Rattle.format.specs.Table.{textOk}
-use Rattle.soundness.proofs.TextSpanLaws.{first-out, second-out, third-is}
+use Rattle.texts.proofs.TextSpanLaws.{first-out, second-out, third-is}
 use borrow.Author.Needs.{needs}
-use Rattle.soundness.proofs.texts.texts_fine.Statement.{statement}
-use Rattle.soundness.proofs.texts.texts_fine.Tie as tie
+use Rattle.texts.proofs.texts_fine.Statement.{statement}
+use Rattle.texts.proofs.texts_fine.Tie as tie
 
 named-requires : tie.Need-named-requires
 named-requires c κs = search needs

@@ -5,7 +5,7 @@ ghost use lib.ListN.{length, drop};
 ghost use Rattle.lists.specs.Lists.{all};
 ghost use Rattle.format.specs.Bytes.{unlabelled};
 ghost use Rattle.format.specs.Table.{spanAt, spansOf, textFine, textOk};
-ghost use Rattle.soundness.specs.Spans.{span, labelAfter};
+ghost use Rattle.texts.specs.Spans.{span, labelAfter};
 use cells::cell;
 use format::Table;
 

@@ -1,9 +1,9 @@
--- `soundness::texts::named` meets its contract. Assumes nothing.
+-- `texts::named` meets its contract. Assumes nothing.
 use mathlib.Core.Path.{_∙_}
-use Rattle.soundness.proofs.TextSpanLaws.{named-is}
+use Rattle.texts.proofs.TextSpanLaws.{named-is}
 use borrow.Author.Needs.{needs}
-use Rattle.soundness.proofs.texts.named.Statement.{statement}
-use Rattle.soundness.proofs.texts.named.Tie as tie
+use Rattle.texts.proofs.named.Statement.{statement}
+use Rattle.texts.proofs.named.Tie as tie
 
 cell-requires : tie.Need-cell-requires
 cell-requires c κs = search needs

@@ -1,10 +1,10 @@
--- `soundness::texts::fine` meets its contract. Assumes nothing.
+-- `texts::fine` meets its contract. Assumes nothing.
 use mathlib.Core.Path.{sym, _∙_}
 use borrow.Author.Tests.{not-true, not-false}
-use Rattle.soundness.proofs.TextSpanLaws.{untrimmed, unclean, fine-plain}
+use Rattle.texts.proofs.TextSpanLaws.{untrimmed, unclean, fine-plain}
 use borrow.Author.Needs.{needs}
-use Rattle.soundness.proofs.texts.fine.Statement.{statement}
-use Rattle.soundness.proofs.texts.fine.Tie as tie
+use Rattle.texts.proofs.fine.Statement.{statement}
+use Rattle.texts.proofs.fine.Tie as tie
 
 trimmed-requires : tie.Need-trimmed-requires
 trimmed-requires c κs = search needs

@@ -1,13 +1,13 @@
--- `soundness::texts::plain` meets its contract. Assumes nothing.
+-- `texts::plain` meets its contract. Assumes nothing.
 use Prim.Native.Nat.{_-_}
 use mathlib.Core.Path.{_≡_, refl, sym, _∙_}
 use native.Mathlib.Omega.{arith}
 use lib.ListN.{length, drop}
 use Rattle.format.specs.Bytes.{unlabelled}
 use Rattle.format.proofs.ByteLaws.{unlabelled-at-end}
-use Rattle.soundness.proofs.TextSpanLaws.{plain-hit, plain-on}
-use Rattle.soundness.proofs.texts.plain.Statement.{statement}
-use Rattle.soundness.proofs.texts.plain.Tie as tie
+use Rattle.texts.proofs.TextSpanLaws.{plain-hit, plain-on}
+use Rattle.texts.proofs.plain.Statement.{statement}
+use Rattle.texts.proofs.plain.Tie as tie
 
 abbrev Inv-loop : tie.InvT-loop
 Inv-loop text i₀ i = unlabelled text ≡ unlabelled (drop i text)

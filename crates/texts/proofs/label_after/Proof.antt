@@ -1,9 +1,9 @@
--- `soundness::texts::label_after` meets its contract. Assumes nothing.
+-- `texts::label_after` meets its contract. Assumes nothing.
 use mathlib.Core.Path.{sym}
-use Rattle.soundness.proofs.TextSpanLaws.{after-other, after-short, after-one, after-two}
+use Rattle.texts.proofs.TextSpanLaws.{after-other, after-short, after-one, after-two}
 use borrow.Author.Needs.{needs}
-use Rattle.soundness.proofs.texts.label_after.Statement.{statement}
-use Rattle.soundness.proofs.texts.label_after.Tie as tie
+use Rattle.texts.proofs.label_after.Statement.{statement}
+use Rattle.texts.proofs.label_after.Tie as tie
 
 shared-slice-read-if1 : tie.Need-shared-slice-read-if1
 shared-slice-read-if1 c = search needs

@@ -1,0 +1,2 @@
+-- The laws of this crate's functions, file by file. Assumes nothing.
+pub mod TextSpanLaws
