@@ -1,5 +1,4 @@
--- What printing a table promises, and what the writer's answer says: document 01, "The one written form" and the writing part of "Refusal numbers". Of every table
--- whose atoms and groups are as a sound table has them. Assumes nothing.
+-- What printing a table promises: document 01, "The one written form". Of every table whose atoms and groups are as a sound table has them. Assumes nothing.
 use Prim.Native.Nat.{ℕ}
 use mathlib.Core.Path.{_≡_}
 use mathlib.Core.Bool.{true}

@@ -1,15 +1,15 @@
 -- Printing piece by piece is printing the pieces in one: what is laid first and what is laid behind it are laid together. A form that fits stands at the
 -- buffer's front, and what was behind it stays. Document 01, "Refusal numbers" ("bytes beyond it stay"). Assumes nothing.
-use Prim.Native.Nat.{ℕ, suc, _+_, _≤_, _<_}
+use Prim.Native.Nat.{ℕ, suc, _+_, _-_, _≤_, _<_}
 use mathlib.Core.Path.{_≡_, refl, sym, ap, _∙_}
 use mathlib.Core.Bool.{Bool, true, false}
 use mathlib.Core.List.{List, [], _∷_, _++_}
 use native.Mathlib.Nat.{zero-add}
 use native.Mathlib.Numerals.{add-one}
 use native.Mathlib.Omega.{arith}
-use lib.ListN.{length, getD, set, drop}
+use lib.ListN.{length, getD, set, drop, length-drop, drop-of-length-le}
 use lib.Dec.{ltb}
-use lib.Seq.{drop-cons, sets, sets-eq}
+use lib.Seq.{drop-cons, set-out, sets, sets-eq}
 use borrow.Author.Tests.{ltb-true, ltb-false, lt-ltb, le-ltb}
 use Rattle.lists.proofs.PartLaws.{flat-nil, flat-cons, flat-append}
 use Rattle.format.specs.Bytes.{Bytes}
@@ -114,6 +114,26 @@ after-whole x h = after-short 0 x (omega arith) ∙ zero-add (length x)
 
 pub after-over : (x : Bytes) → 32769 ≤ length x → after 0 x ≡ 32769
 after-over x h = after-long 0 x (omega arith) (omega arith)
+
+-- A TEXT THAT FITS, laid without a look at each place
+pub lay-on : {b now now′ : Bytes} {at here : ℕ} (text : Bytes) (i : ℕ) → i < length text → here < 32769 → now′ ≡ set now here (getD text i 0)
+    → Rests b at text now here (drop i text) → Rests b at text now′ (here + 1) (drop (i + 1) text)
+lay-on {here = here} text i h k e p = text-on text i h (laid-byte e (next-in here k)) p
+
+sets-out : (b : Bytes) (at : ℕ) (x : Bytes) → length b ≤ at → sets b at x ≡ b
+sets-out b at [] h = refl
+sets-out b at (c ∷ x) h = ap (λ l. sets l (suc at) x) (set-out b at c h) ∙ sets-out b (suc at) x (omega arith)
+
+pub lay-end : {b now : Bytes} {at here : ℕ} (text : Bytes) (i : ℕ) → here + (length text - i) ≤ 32769 → (i < length text → length now ≤ here)
+    → Rests b at text now here (drop i text) → now ≡ over b at text
+lay-end {b} {now} {at} {here} text i h out p = go (ltb i (length text)) refl
+  where
+    go : (t : Bool) → ltb i (length text) ≡ t → now ≡ over b at text
+    go true e = sym (p .laid ∙ over-short now here (drop i text) (omega (arith, length-drop i text)) ∙ sets-out now here (drop i text) (out (ltb-true i (length text) e)))
+    go false e = rest-none (drop-of-length-le text (ltb-false i (length text) e)) p .laid
+
+pub laid-short : {b b′ : Bytes} (at : ℕ) (text : Bytes) → at + length text ≤ 32769 → b′ ≡ over b at text → Laid b at text b′ (at + length text)
+laid-short at text h e = record { place = sym (after-short at text h); laid = e }
 
 -- WORDS EACH BEHIND A SPACE
 pub spaced-none : spaced [] ≡ []

@@ -2,9 +2,10 @@
 // place in the buffer is counted and not laid.
 ghost use mathlib.Core.Path.{_≡_};
 ghost use mathlib.Core.List.{[], _∷_};
-ghost use lib.ListN.{set};
+ghost use Prim.Native.Nat.{_+_, _-_, _≤_, _<_};
+ghost use lib.ListN.{length, set};
 ghost use Rattle.format.specs.Writing.{digitsIn, digits, unlessZero};
-ghost use Rattle.printing.specs.Printing.{nextPlace, Laid, spaced};
+ghost use Rattle.printing.specs.Printing.{nextPlace, over, Laid, spaced};
 use format::Table;
 
 mod letters; // letters.rt: the table of the elements' letters
@@ -38,8 +39,8 @@ pub fn put(buffer: &mut [u8], at: usize, byte: u8) -> usize
     next_place(at)
 }
 
-// The bytes of a text.
-pub fn put_text(buffer: &mut [u8], at: usize, text: &[u8]) -> usize
+// The bytes of a text, one by one.
+fn put_each(buffer: &mut [u8], at: usize, text: &[u8]) -> usize
     ensures { λ r. ⌜ Laid (now (buffer .entry)) at (now (text .entry)) (now (buffer .exit)) r ⌝ }
 {
     let mut place = at;
@@ -49,6 +50,48 @@ pub fn put_text(buffer: &mut [u8], at: usize, text: &[u8]) -> usize
         i += 1;
     }
     place
+}
+
+// How many of so many bytes have their place in a buffer of this size.
+fn room(size: usize, at: usize, most: usize) -> usize
+    ensures { λ r. ⌜ (r ≤ most) × (r ≤ size - at) × (r < most → size ≤ at + r) ⌝ }
+{
+    if size <= at {
+        return 0;
+    }
+    if size - at < most {
+        return size - at;
+    }
+    most
+}
+
+// A text that does not pass the longest form, without a look at each place.
+fn lay(buffer: &mut [u8], at: usize, text: &[u8])
+    requires { ⌜ at + length (now text) ≤ 32768 ⌝ }
+    ensures { λ _. ⌜ now (buffer .exit) ≡ over (now (buffer .entry)) at (now (text .entry)) ⌝ }
+{
+    let end = room(buffer.len(), at, text.len());
+    let mut place = at;
+    let mut i = 0;
+    while i < end {
+        buffer[place] = text[i];
+        place += 1;
+        i += 1;
+    }
+}
+
+// The bytes of a text.
+pub fn put_text(buffer: &mut [u8], at: usize, text: &[u8]) -> usize
+    ensures { λ r. ⌜ Laid (now (buffer .entry)) at (now (text .entry)) (now (buffer .exit)) r ⌝ }
+{
+    if Table::BLOCK < at {
+        return put_each(buffer, at, text);
+    }
+    if Table::BLOCK - at < text.len() {
+        return put_each(buffer, at, text);
+    }
+    lay(buffer, at, text);
+    at + text.len()
 }
 
 // A number in at most `most` digits, "no leading zeros".

@@ -1,55 +1,51 @@
 -- `printing::put_text` meets its contract. Assumes nothing.
-use Prim.Native.Nat.{_-_, _≤_}
-use mathlib.Core.Path.{_≡_, refl}
 use native.Mathlib.Omega.{arith}
-use lib.ListN.{length, drop, drop-of-length-le}
 use borrow.Author.Needs.{needs}
-use Rattle.printing.specs.Printing.{Rests}
-use Rattle.printing.proofs.PrintLaws.{rest-all, text-on, rest-none}
+use Rattle.printing.proofs.PrintLaws.{laid-short}
 use Rattle.printing.proofs.put_text.Statement.{statement}
 use Rattle.printing.proofs.put_text.Tie as tie
 
-abbrev Inv-loop : tie.InvT-loop
-Inv-loop buffer₀ at text place₀ i₀ buffer place i = (i ≤ length text) × (length buffer ≡ length buffer₀) × Rests buffer₀ at text buffer place (drop i text)
+put-each-requires : tie.Need-put-each-requires
+put-each-requires c κs = search needs
 
-abbrev μ-loop : tie.MeasureT-loop
-μ-loop buffer₀ at text place₀ i₀ buffer place i = length text - i
+same-length : tie.Need-same-length
+same-length c = search needs
 
-loop-holds : tie.Need-loop-holds Inv-loop μ-loop
-loop-holds c = (omega arith, refl, rest-all)
+returns : tie.Need-returns
+returns c = search needs
 
-shared-slice-read-put : tie.Need-shared-slice-read-put Inv-loop μ-loop
-shared-slice-read-put c = search needs
+put-each-requires-2 : tie.Need-put-each-requires-2
+put-each-requires-2 c κs = search needs
 
-put-requires : tie.Need-put-requires Inv-loop μ-loop
-put-requires c κs = search needs
+same-length-2 : tie.Need-same-length-2
+same-length-2 c = search needs
 
-add-i : tie.Need-add-i Inv-loop μ-loop
-add-i c = search needs
+returns-2 : tie.Need-returns-2
+returns-2 c = search needs
 
-loop-less : tie.Need-loop-less Inv-loop μ-loop
-loop-less c = omega arith
+lay-requires : tie.Need-lay-requires
+lay-requires c κs = search needs
 
-loop-again : tie.Need-loop-again Inv-loop μ-loop
-loop-again c = (omega arith, omega arith, text-on _ _ (c .before .before .before .before .before .loop-test .taken) (c .before .before .put .ensures) (c .before .before .before .before .before .before .loop .inv .2))
+add-result : tie.Need-add-result
+add-result c = search needs
 
-same-length : tie.Need-same-length Inv-loop μ-loop
-same-length c = c .before .loop .inv .1
+same-length-3 : tie.Need-same-length-3
+same-length-3 c = search needs
 
-returns : tie.Need-returns Inv-loop μ-loop
-returns c = rest-none (drop-of-length-le _ (c .loop-test .left)) (c .before .loop .inv .2)
+returns-3 : tie.Need-returns-3
+returns-3 c = laid-short (c .before .before .before .before .before .before .before .before .args .at) (c .before .before .before .before .before .before .before .before .args .text .now) (omega arith) (c .before .before .lay .ensures)
 
 pub put-text-spec : {M : Type 1} → statement M
 put-text-spec =
     tie.close
     (tie.spec
-    Inv-loop
-    μ-loop
-    loop-holds
-    shared-slice-read-put
-    put-requires
-    add-i
-    loop-less
-    loop-again
+    put-each-requires
     same-length
-    returns)
+    returns
+    put-each-requires-2
+    same-length-2
+    returns-2
+    lay-requires
+    add-result
+    same-length-3
+    returns-3)
