@@ -8,7 +8,6 @@ ghost use Rattle.format.specs.Writing.{digitsIn, digits, unlessZero};
 ghost use Rattle.printing.specs.Printing.{nextPlace, over, Laid, spaced};
 use format::Table;
 
-mod letters; // letters.rt: the table of the elements' letters
 pub mod symbols; // symbols.rt: an element and its mass
 
 // A byte at its place, if the buffer has that place.

@@ -8,7 +8,6 @@ ghost use Rattle.format.specs.Structure.{isotopeOf};
 ghost use Rattle.format.specs.Writing.{symbolOf, spelt, printMass, printSym};
 ghost use Rattle.printing.specs.Printing.{Laid};
 ghost use Rattle.printing.specs.Spelling.{plainSym, lettersOf};
-use crate::letters::LETTERS;
 use crate::put;
 use crate::put_number;
 
@@ -22,14 +21,22 @@ fn one_less(element: u32) -> usize
     element as usize - 1
 }
 
-// A letter of an element, the first (0) or the second (1); 0 where there is none.
+// A letter of an element, the first (0) or the second (1); 0 where there is none. "Symbols are those of elements 1 (H) to 103 (Lr)": two bytes an element. A byte string is
+// read where it stands; an array would be laid on the stack at each call.
 fn letter(element: u32, which: usize) -> u8
     requires { ⌜ which < 2 ⌝ }
     ensures { λ r. ⌜ r ≡ getD (symbolOf element) which 0 ⌝ }
 {
     let place = one_less(element);
     if place < 103 {
-        return LETTERS[2 * place + which];
+        let letters = b"\
+H\0HeLiBeB\0C\0N\0O\0F\0NeNaMgAlSiP\0S\0ClArK\0Ca\
+ScTiV\0CrMnFeCoNiCuZnGaGeAsSeBrKrRbSrY\0Zr\
+NbMoTcRuRhPdAgCdInSnSbTeI\0XeCsBaLaCePrNd\
+PmSmEuGdTbDyHoErTmYbLuHfTaW\0ReOsIrPtAuHg\
+TlPbBiPoAtRnFrRaAcThPaU\0NpPuAmCmBkCfEsFm\
+MdNoLr";
+        return letters[2 * place + which];
     }
     0
 }
