@@ -5,6 +5,13 @@ ghost use lib.ListN.{length, drop};
 ghost use Rattle.lists.specs.Lists.{all};
 ghost use Rattle.format.specs.Bytes.{allowed, gap};
 ghost use Rattle.lines.specs.Cuts.{comment, LineEnd, Uncommented};
+ghost use Rattle.lines.specs.Looks.{ShowsLooked};
+
+// Where a line of allowed bytes ends; or that a byte of it is not allowed.
+pub enum Looked {
+    End(usize),
+    Wrong,
+}
 
 // Where the line that starts at `at` ends, its line feed counted: "A line ends with a line feed (10) or with the input".
 pub fn line_end(block: &[u8], at: usize) -> usize
@@ -18,6 +25,27 @@ pub fn line_end(block: &[u8], at: usize) -> usize
         i += 1;
     }
     i
+}
+
+// Where the line that starts at `at` ends, if each byte of it is allowed: "Allowed bytes: 9, 10, 13 and 32 to 126." One pass for both; most bytes end at the first test.
+pub fn clean_end(block: &[u8], at: usize) -> Looked
+    ensures { λ r. ⌜ ShowsLooked (now (block .entry)) at r ⌝ }
+{
+    let mut i = at;
+    while i < block.len() {
+        let b = block[i];
+        i += 1;
+        if 32 <= b && b <= 126 {
+            continue;
+        }
+        if b == 10 {
+            return Looked::End(i);
+        }
+        if !alphabet::is_allowed(b) {
+            return Looked::Wrong;
+        }
+    }
+    Looked::End(i)
 }
 
 // Whether each byte of the line is allowed: "Allowed bytes: 9, 10, 13 and 32 to 126."
