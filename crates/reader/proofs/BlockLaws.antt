@@ -11,7 +11,7 @@ use borrow.Author.Tests.{eq-eqb, ne-eqb}
 use Rattle.lists.specs.Lists.{isNil, all, any, filled, flat}
 use Rattle.lists.specs.Order.{sort}
 use Rattle.lists.proofs.ListLaws.{all-nil, all-both}
-use Rattle.format.specs.Bytes.{Bytes, cut, lineLen}
+use Rattle.format.specs.Bytes.{Bytes, allowed, cut, lineLen}
 use Rattle.format.specs.Labels.{ListOf, Bonds, Charges, Radicals, Centres, Pairs, Label, label, known, lookup}
 use Rattle.format.specs.Formula.{frun, formulaShape}
 use Rattle.format.specs.Structure.{rowsOf, most, atomOk}
@@ -19,8 +19,11 @@ use Rattle.format.specs.Reading.{Rules, State, noted, past, over, lineStep, Ref
 use Rattle.format.specs.Reading.{Go as going, Stop as stopping, Turn as Turned}
 use Rattle.format.proofs.AcceptedLaws.{lookup-passes, label-passes}
 use Rattle.format.proofs.CutLaws.{cut-at, cut-nil}
-use Rattle.format.proofs.ReadingLaws.{read-go, read-stop, read-end, Went, further, started, step-went}
+use Rattle.format.proofs.ReadingLaws.{step-byte, read-go, read-stop, read-end, Went, further, started, step-went}
 use Rattle.lines.specs.Cuts.{LineEnd}
+use Rattle.lines.specs.Looks.{lineFrom, CleanEnd, ShowsLooked}
+use Rattle.lines.specs.declared.Looked.{Looked}
+use Rattle.lines.specs.declared.Looked.the-variants as L
 use Rattle.labels.specs.ShownLines.{byCode}
 use Rattle.sorted.specs.Regions.{kindsRegion, memberOf, membersFrom, arrived, voidOf, spreadRegion, keyedRegion, seenFrom, topOf}
 use Rattle.sorted.proofs.FitLaws.{fits-nil}
@@ -133,6 +136,25 @@ bounded-go size r q e b = rw e at b
 pub flowing-go : (at : ℕ) (r : Turn) (q : Progress) → r ≡ Go q → FlowingTurn at r → Flowing at q
 flowing-go at r q e f = rw e at f
 
+-- a line of allowed bytes, told of and cut out
+pub looked-end : (block : Bytes) (at : ℕ) (r : Looked) (end : ℕ) → r ≡ L.End end → ShowsLooked block at r → CleanEnd block at end
+looked-end block at r end e s = rw e at s
+
+pub looked-wrong : (block : Bytes) (at : ℕ) (r : Looked) → r ≡ L.Wrong → ShowsLooked block at r → all allowed (lineFrom block at) ≡ false
+looked-wrong block at r e s = rw e at s
+
+part-is : (block : Bytes) (at end : ℕ) → LineEnd block at end → lineFrom block at ≡ partOf block at end
+part-is block at end e = let q : lineLen (drop at block) ≡ end - at = omega (arith, e .is) in ap (λ (n : ℕ). take n (drop at block)) q
+
+pub part-clean : (block : Bytes) (at end : ℕ) → CleanEnd block at end → all allowed (partOf block at end) ≡ true
+part-clean block at end e = ap (all allowed) (sym (part-is block at end (e .end))) ∙ e .clean
+
+-- a line with a byte that is not allowed
+pub unclean : (u : Given) (block : Bytes) (at : ℕ) (p : Progress) (t : List ℕ) → Going u block at p t → at < length block → all allowed (lineFrom block at) ≡ false → readLines (rulesOf u) start (cut block) ≡ Refused 3 at
+unclean u block at p t g more e =
+    g .goes ∙ ap (readLines (rulesOf u) (g .state)) (cut-at block at more) ∙ read-stop (rulesOf u) (g .state) 3 (lineFrom block at) (cut (drop (at + lineLen (drop at block)) block)) (step-byte (rulesOf u) (g .state) (lineFrom block at) e)
+    ∙ ap (Refused 3) (g .shows .place)
+
 module _ (u : Given) (block : Bytes) (at end : ℕ) (p : Progress) (t s : List ℕ) (g : Going u block at p t) (more : at < length block) (e : LineEnd block at end) (r : Turn)
     (sim : (st : State) → Shows (u .last) block at p t st → begun st ≡ true → ShowsTurn (u .last) block at r s (lineStep (rulesOf u) st (partOf block at end))) where
   high : end ≤ length block
@@ -140,8 +162,7 @@ module _ (u : Given) (block : Bytes) (at end : ℕ) (p : Progress) (t s : List �
 
   cut-is : cut (drop at block) ≡ partOf block at end ∷ cut (drop end block)
   cut-is =
-      let q : lineLen (drop at block) ≡ end - at = omega (arith, e .is) in
-      cut-at block at more ∙ ap (λ (n : ℕ). take n (drop at block) ∷ cut (drop (at + lineLen (drop at block)) block)) q ∙ ap (λ (n : ℕ). partOf block at end ∷ cut (drop n block)) (sym (e .is))
+      cut-at block at more ∙ ap (λ (l : Bytes). l ∷ cut (drop (at + lineLen (drop at block)) block)) (part-is block at end e) ∙ ap (λ (n : ℕ). partOf block at end ∷ cut (drop n block)) (sym (e .is))
 
   on-line : readLines (rulesOf u) start (cut block) ≡ readLines (rulesOf u) (g .state) (partOf block at end ∷ cut (drop end block))
   on-line = g .goes ∙ ap (readLines (rulesOf u) (g .state)) cut-is

@@ -15,7 +15,7 @@ use Rattle.lists.proofs.ListLaws.{all-parts}
 use Rattle.format.specs.Bytes.{Bytes, allowed}
 use Rattle.format.specs.Labels.{Bonds, Charges, Radicals, Centres, Pairs, Label, label, known, lookup, misplaced, Plain, Unparted, Labelled, hasCode, lineOf, titleLine}
 use Rattle.format.specs.Reading.{Rules, State, if_stop_else_, noted, opened, over, valueTurn, furtherTurn, lineTurn, lineStep}
-use Rattle.format.proofs.ReadingLaws.{step-byte, step-first, step-on, line-plain, line-unparted}
+use Rattle.format.proofs.ReadingLaws.{step-first, step-on, line-plain, line-unparted}
 use Rattle.labels.specs.ShownLines.{byCode, shownLine, ShowsLine}
 use Rattle.labels.specs.declared.LineKind.{LineKind}
 use Rattle.labels.specs.declared.LineKind.the-variants as K
@@ -147,97 +147,93 @@ line-labelled : (u : Rules) (st : State) (l : Bytes) (x : Label) (value from : �
 unfolding lineTurn
 line-labelled u st l x value from e q = ap (lineTurn u st l) e ∙ ap (λ (n : ℕ). labelTurn u st n x (drop value l)) q
 
-module _ (block : Bytes) (at end : ℕ) (u : Given) (p : Progress) (t : List ℕ) (long : length t ≡ 2960) (h : at ≤ end) (l : end ≤ length block) (clean : Bool) (tested : clean ≡ all allowed (partOf block at end)) where
+module _ (block : Bytes) (at end : ℕ) (u : Given) (p : Progress) (t : List ℕ) (long : length t ≡ 2960) (h : at ≤ end) (l : end ≤ length block) (clean : all allowed (partOf block at end) ≡ true) (r : LineKind) (shows : ShowsLine (partOf block at end) r) where
   abbrev pub StepPromise : Turn → List ℕ → Type 0
   StepPromise r s =
       (length s ≡ 2960) × BoundedTurn (length block) r × FlowingTurn end r
       × ((st : State) → Shows (u .last) block at p t st → begun st ≡ true → ShowsTurn (u .last) block at r s (lineStep (rulesOf u) st (partOf block at end)))
 
-  pub step-unclean : clean ≡ false → StepPromise (Stop 3) t
-  step-unclean e = (long, tt, tt, λ st s g. stop-shown (u .last) block at t 3 _ (step-byte (rulesOf u) st (partOf block at end) (sym tested ∙ e)))
+  line-is : (k : LineKind) → r ≡ k → lineOf (partOf block at end) ≡ shownLine (partOf block at end) k
+  line-is k e = sym (shows .is) ∙ ap (shownLine (partOf block at end)) e
 
-  module _ (fine : clean ≡ true) (r : LineKind) (shows : ShowsLine (partOf block at end) r) where
-    line-is : (k : LineKind) → r ≡ k → lineOf (partOf block at end) ≡ shownLine (partOf block at end) k
-    line-is k e = sym (shows .is) ∙ ap (shownLine (partOf block at end)) e
+  title-is : (k : LineKind) → r ≡ k → titleLine (partOf block at end) ≡ hasCode 1 (shownLine (partOf block at end) k)
+  unfolding titleLine
+  title-is k e = ap (hasCode 1) (line-is k e)
 
-    title-is : (k : LineKind) → r ≡ k → titleLine (partOf block at end) ≡ hasCode 1 (shownLine (partOf block at end) k)
-    unfolding titleLine
-    title-is k e = ap (hasCode 1) (line-is k e)
+  seen-nil : (st : State) → Shows (u .last) block at p t st → begun st ≡ true → isNil (st .seen) ≡ eqb (p .top) 0
+  seen-nil st s g = nil-top (st .seen) g ∙ ap (λ (n : ℕ). eqb n 0) (sym (s .top))
 
-    seen-nil : (st : State) → Shows (u .last) block at p t st → begun st ≡ true → isNil (st .seen) ≡ eqb (p .top) 0
-    seen-nil st s g = nil-top (st .seen) g ∙ ap (λ (n : ℕ). eqb n 0) (sym (s .top))
+  first : (k : LineKind) → r ≡ k → hasCode 1 (shownLine (partOf block at end) k) ≡ false → p .top ≡ 0 → StepPromise (Stop 4) t
+  first k e c z = (
+    long,
+    tt,
+    tt,
+    λ st s g. stop-shown (u .last) block at t 4 _
+        (step-first (rulesOf u) st (partOf block at end) clean (seen-nil st s g ∙ eq-eqb (p .top) 0 z) (title-is k e ∙ c)),
+  )
 
-    first : (k : LineKind) → r ≡ k → hasCode 1 (shownLine (partOf block at end) k) ≡ false → p .top ≡ 0 → StepPromise (Stop 4) t
-    first k e c z = (
-      long,
-      tt,
-      tt,
-      λ st s g. stop-shown (u .last) block at t 4 _
-          (step-first (rulesOf u) st (partOf block at end) (sym tested ∙ fine) (seen-nil st s g ∙ eq-eqb (p .top) 0 z) (title-is k e ∙ c)),
-    )
+  pub plain-first : r ≡ K.Plain → p .top ≡ 0 → StepPromise (Stop 4) t
+  plain-first e z = first K.Plain e refl z
 
-    pub plain-first : r ≡ K.Plain → p .top ≡ 0 → StepPromise (Stop 4) t
-    plain-first e z = first K.Plain e refl z
+  pub unparted-first : r ≡ K.Unparted → p .top ≡ 0 → StepPromise (Stop 4) t
+  unparted-first e z = first K.Unparted e refl z
 
-    pub unparted-first : r ≡ K.Unparted → p .top ≡ 0 → StepPromise (Stop 4) t
-    unparted-first e z = first K.Unparted e refl z
+  later : (st : State) → Shows (u .last) block at p t st → begun st ≡ true → (eqb (p .top) 0 && not (titleLine (partOf block at end))) ≡ false → lineStep (rulesOf u) st (partOf block at end) ≡ lineTurn (rulesOf u) st (partOf block at end) (lineOf (partOf block at end))
+  later st s g q = step-on (rulesOf u) st (partOf block at end) clean (ap (λ (x : Bool). x && not (titleLine (partOf block at end))) (seen-nil st s g) ∙ q)
 
-    later : (st : State) → Shows (u .last) block at p t st → begun st ≡ true → (eqb (p .top) 0 && not (titleLine (partOf block at end))) ≡ false → lineStep (rulesOf u) st (partOf block at end) ≡ lineTurn (rulesOf u) st (partOf block at end) (lineOf (partOf block at end))
-    later st s g q = step-on (rulesOf u) st (partOf block at end) (sym tested ∙ fine) (ap (λ (x : Bool). x && not (titleLine (partOf block at end))) (seen-nil st s g) ∙ q)
+  begun-later : (p .top ≡ 0 → ⊥) → (eqb (p .top) 0 && not (titleLine (partOf block at end))) ≡ false
+  begun-later z = ap (λ (x : Bool). x && not (titleLine (partOf block at end))) (ne-eqb (p .top) 0 z)
 
-    begun-later : (p .top ≡ 0 → ⊥) → (eqb (p .top) 0 && not (titleLine (partOf block at end))) ≡ false
-    begun-later z = ap (λ (x : Bool). x && not (titleLine (partOf block at end))) (ne-eqb (p .top) 0 z)
+  pub unparted-step : r ≡ K.Unparted → (p .top ≡ 0 → ⊥) → StepPromise (Stop 5) t
+  unparted-step e z = (
+    long,
+    tt,
+    tt,
+    λ st s g. stop-shown (u .last) block at t 5 _ (later st s g (begun-later z) ∙ line-unparted (rulesOf u) st (partOf block at end) (line-is K.Unparted e)),
+  )
 
-    pub unparted-step : r ≡ K.Unparted → (p .top ≡ 0 → ⊥) → StepPromise (Stop 5) t
-    unparted-step e z = (
-      long,
-      tt,
-      tt,
-      λ st s g. stop-shown (u .last) block at t 5 _ (later st s g (begun-later z) ∙ line-unparted (rulesOf u) st (partOf block at end) (line-is K.Unparted e)),
-    )
+  pub plain-step : (a : Turn) (s : List ℕ) → r ≡ K.Plain → (p .top ≡ 0 → ⊥)
+      → (length s ≡ 2960) × BoundedTurn (length block) a × FlowingTurn end a
+      × ((st : State) → Shows (u .last) block at p t st → ShowsTurn (u .last) block at a s (furtherTurn (rulesOf u) (st .running) st (partOf block at end))) → StepPromise a s
+  plain-step a s e z q = (
+    q .0,
+    q .1,
+    q .2,
+    λ st w g. turn-shown (u .last) block at a s _ _ (later st w g (begun-later z) ∙ line-plain (rulesOf u) st (partOf block at end) (line-is K.Plain e)) (q .3 st w),
+  )
 
-    pub plain-step : (a : Turn) (s : List ℕ) → r ≡ K.Plain → (p .top ≡ 0 → ⊥)
-        → (length s ≡ 2960) × BoundedTurn (length block) a × FlowingTurn end a
-        × ((st : State) → Shows (u .last) block at p t st → ShowsTurn (u .last) block at a s (furtherTurn (rulesOf u) (st .running) st (partOf block at end))) → StepPromise a s
-    plain-step a s e z q = (
-      q .0,
-      q .1,
-      q .2,
-      λ st w g. turn-shown (u .last) block at a s _ _ (later st w g (begun-later z) ∙ line-plain (rulesOf u) st (partOf block at end) (line-is K.Plain e)) (q .3 st w),
-    )
+  module _ (code value : ℕ) (e : r ≡ K.Labelled code value) where
+    title-code : titleLine (partOf block at end) ≡ eqb 1 code
+    title-code = title-is (K.Labelled code value) e ∙ ap (eqb 1) (known-told code (shows .code code value e) .0)
 
-    module _ (code value : ℕ) (e : r ≡ K.Labelled code value) where
-      title-code : titleLine (partOf block at end) ≡ eqb 1 code
-      title-code = title-is (K.Labelled code value) e ∙ ap (eqb 1) (known-told code (shows .code code value e) .0)
+    pub value-low : at + value ≤ end
+    value-low = omega (arith, shows .high code value e, part-length block at end h l)
 
-      pub value-low : at + value ≤ end
-      value-low = omega (arith, shows .high code value e, part-length block at end h l)
+    module _ (late : Bool) (said : late ≡ (eqb (p .top) 0 && not (eqb code 1))) where
+      late-is : (eqb (p .top) 0 && not (titleLine (partOf block at end))) ≡ late
+      late-is = ap (λ (x : Bool). eqb (p .top) 0 && not x) (title-code ∙ eqb-symm 1 code) ∙ sym said
 
-      module _ (late : Bool) (said : late ≡ (eqb (p .top) 0 && not (eqb code 1))) where
-        late-is : (eqb (p .top) 0 && not (titleLine (partOf block at end))) ≡ late
-        late-is = ap (λ (x : Bool). eqb (p .top) 0 && not x) (title-code ∙ eqb-symm 1 code) ∙ sym said
+      pub label-first : late ≡ true → StepPromise (Stop 4) t
+      label-first f =
+          let q = and-parts (eqb (p .top) 0) (not (titleLine (partOf block at end))) (late-is ∙ f) in
+          (long, tt, tt, λ st s g. stop-shown (u .last) block at t 4 _ (step-first (rulesOf u) st (partOf block at end) clean (seen-nil st s g ∙ q .0) (not-true (titleLine (partOf block at end)) (q .1))))
 
-        pub label-first : late ≡ true → StepPromise (Stop 4) t
-        label-first f =
-            let q = and-parts (eqb (p .top) 0) (not (titleLine (partOf block at end))) (late-is ∙ f) in
-            (long, tt, tt, λ st s g. stop-shown (u .last) block at t 4 _ (step-first (rulesOf u) st (partOf block at end) (sym tested ∙ fine) (seen-nil st s g ∙ q .0) (not-true (titleLine (partOf block at end)) (q .1))))
+      pub label-step : (a : Turn) (s : List ℕ) → late ≡ false
+          → (length s ≡ 2960) × BoundedTurn (length block) a × FlowingTurn end a
+          × ((place : ℕ) (st : State) → Shows (u .last) block place p t st → ShowsTurn (u .last) block place a s (labelTurn (rulesOf u) st (at + value) (byCode code known) (partOf block (at + value) end))) → StepPromise a s
+      label-step a s f q = (
+        q .0,
+        q .1,
+        q .2,
+        λ st w g. turn-shown (u .last) block at a s _ _ (later st w g (late-is ∙ f) ∙ labelled st w) (q .3 at st w),
+      )
+        where
+          rest-is : drop value (partOf block at end) ≡ partOf block (at + value) end
+          rest-is = part-drop block at end value value-low l
 
-        pub label-step : (a : Turn) (s : List ℕ) → late ≡ false
-            → (length s ≡ 2960) × BoundedTurn (length block) a × FlowingTurn end a
-            × ((place : ℕ) (st : State) → Shows (u .last) block place p t st → ShowsTurn (u .last) block place a s (labelTurn (rulesOf u) st (at + value) (byCode code known) (partOf block (at + value) end))) → StepPromise a s
-        label-step a s f q = (
-          q .0,
-          q .1,
-          q .2,
-          λ st w g. turn-shown (u .last) block at a s _ _ (later st w g (late-is ∙ f) ∙ labelled st w) (q .3 at st w),
-        )
-          where
-            rest-is : drop value (partOf block at end) ≡ partOf block (at + value) end
-            rest-is = part-drop block at end value value-low l
+          place-is : (st : State) → Shows (u .last) block at p t st → st .at + (length (partOf block at end) - length (drop value (partOf block at end))) ≡ at + value
+          place-is st w = omega (arith, w .place, length-drop value (partOf block at end), shows .high code value e)
 
-            place-is : (st : State) → Shows (u .last) block at p t st → st .at + (length (partOf block at end) - length (drop value (partOf block at end))) ≡ at + value
-            place-is st w = omega (arith, w .place, length-drop value (partOf block at end), shows .high code value e)
-
-            labelled : (st : State) → Shows (u .last) block at p t st
-                → lineTurn (rulesOf u) st (partOf block at end) (lineOf (partOf block at end)) ≡ labelTurn (rulesOf u) st (at + value) (byCode code known) (partOf block (at + value) end)
-            labelled st w = line-labelled (rulesOf u) st (partOf block at end) (byCode code known) value (at + value) (line-is (K.Labelled code value) e) (place-is st w) ∙ ap (labelTurn (rulesOf u) st (at + value) (byCode code known)) rest-is
+          labelled : (st : State) → Shows (u .last) block at p t st
+              → lineTurn (rulesOf u) st (partOf block at end) (lineOf (partOf block at end)) ≡ labelTurn (rulesOf u) st (at + value) (byCode code known) (partOf block (at + value) end)
+          labelled st w = line-labelled (rulesOf u) st (partOf block at end) (byCode code known) value (at + value) (line-is (K.Labelled code value) e) (place-is st w) ∙ ap (labelTurn (rulesOf u) st (at + value) (byCode code known)) rest-is

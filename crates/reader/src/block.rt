@@ -11,7 +11,8 @@ use gather::progress::Part;
 use gather::progress::Progress;
 use gather::progress::Turn;
 use gather::rows_run;
-use lines::line_end;
+use lines::Looked;
+use lines::clean_end;
 
 // A block's judgement: what is known at its end, or the refusal's number and place.
 pub enum Judged {
@@ -41,7 +42,7 @@ fn unread() -> Progress
     }
 }
 
-// Judges a block; the scratch lent is all zeros. "The earliest line that breaks a rule decides"; 4 "or the block is empty"; 16 "no END line", its place the block's length.
+// Judges a block; the scratch lent is all zeros. "The earliest line that breaks a rule decides"; 3 "a byte not allowed"; 4 "or the block is empty"; 16 "no END line", its place the block's length.
 pub fn judge(block: &[u8], u: Rules, scratch: &mut [u32]) -> Judged
     requires { ⌜ (length (now scratch) ≡ 2960) × (now scratch ≡ filled 0 2960 []) × Ruled u ⌝ }
     ensures { λ r. ⌜ (length (now (scratch .exit)) ≡ 2960) × ShowsJudged u (now (block .entry)) (now (scratch .exit)) r ⌝ }
@@ -49,7 +50,9 @@ pub fn judge(block: &[u8], u: Rules, scratch: &mut [u32]) -> Judged
     let mut p = unread();
     let mut at = 0;
     while at < block.len() {
-        let end = line_end(block, at);
+        let Looked::End(end) = clean_end(block, at) else {
+            return Judged::Refused(3, at);
+        };
         match line_step(block, at, end, u, p, scratch) {
             Turn::Go(next) => {
                 let ran = rows_run(block, end, u.last, next, scratch);

@@ -6,7 +6,8 @@ ghost use mathlib.Core.List.{List};
 ghost use Prim.Native.Nat.{ℕ, _≤_, _<_};
 ghost use lib.ListN.{length};
 ghost use lib.Dec.{eqb};
-ghost use Rattle.format.specs.Bytes.{Bytes, fields};
+ghost use Rattle.lists.specs.Lists.{all};
+ghost use Rattle.format.specs.Bytes.{Bytes, allowed, fields};
 ghost use Rattle.format.specs.Labels.{known};
 ghost use Rattle.format.specs.Formula.{formulaShape};
 ghost use Rattle.format.specs.Reading.{State, versionTurn, idTurn, formulaTurn, blankOr, endTurn, valueTurn, furtherTurn, lineStep};
@@ -29,7 +30,6 @@ use gather::progress::Turn;
 use labels::LineKind;
 use labels::line_kind;
 use lines::blank;
-use lines::clean;
 use lines::uncommented;
 use molform::formula_verdict;
 use totals::agrees;
@@ -242,7 +242,7 @@ fn untitled(top: u32, code: u8) -> bool
     code != 1
 }
 
-// The line from `at` to `end`: 3 "a byte not allowed", 4 "first line is no TITLE line", 5 "label line without `=`", then its record's own tests.
+// The line from `at` to `end`, each byte of it allowed: 4 "first line is no TITLE line", 5 "label line without `=`", then its record's own tests.
 pub fn line_step(
     block: &[u8],
     at: usize,
@@ -251,14 +251,11 @@ pub fn line_step(
     p: Progress,
     scratch: &mut [u32],
 ) -> Turn
-    requires { ⌜ (length (now scratch) ≡ 2960) × Bounded (length (now block)) p × Flowing at p × (at ≤ end) × (end ≤ length (now block)) × Ruled u ⌝ }
+    requires { ⌜ (length (now scratch) ≡ 2960) × Bounded (length (now block)) p × Flowing at p × (at ≤ end) × (end ≤ length (now block)) × (all allowed (partOf (now block) at end) ≡ true) × Ruled u ⌝ }
     ensures { λ r. ⌜ (length (now (scratch .exit)) ≡ 2960) × BoundedTurn (length (now (block .entry))) r × FlowingTurn end r × ((st : State) → Shows (u .last) (now (block .entry)) at p (now (scratch .entry)) st → begun st ≡ true →
         ShowsTurn (u .last) (now (block .entry)) at r (now (scratch .exit)) (lineStep (rulesOf u) st (partOf (now (block .entry)) at end))) ⌝ }
 {
     let line = &block[at..end];
-    if !clean(line) {
-        return Turn::Stop(3);
-    }
     let kind = line_kind(line);
     match kind {
         LineKind::Plain => {

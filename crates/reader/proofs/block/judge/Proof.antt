@@ -5,7 +5,7 @@ use native.Mathlib.Omega.{arith}
 use lib.ListN.{length}
 use borrow.Author.Needs.{needs}
 use Rattle.gather.specs.Progress.{Bounded, Flowing}
-use Rattle.reader.proofs.BlockLaws.{Going, holds-start, ran-on, bounded-go, flowing-go, went, stopped, accepts, empty-refused, endless-refused}
+use Rattle.reader.proofs.BlockLaws.{Going, holds-start, looked-end, looked-wrong, part-clean, unclean, ran-on, bounded-go, flowing-go, went, stopped, accepts, empty-refused, endless-refused}
 use Rattle.reader.proofs.block.judge.Statement.{statement}
 use Rattle.reader.proofs.block.judge.Tie as tie
 
@@ -19,13 +19,25 @@ unread-requires : tie.Need-unread-requires Inv-loop μ-loop
 unread-requires c κs = search needs
 
 loop-holds : tie.Need-loop-holds Inv-loop μ-loop
-loop-holds c = holds-start (c .before .before .before .args .u) (c .before .before .before .args .block .now) (c .unread .result) (c .before .before .before .args .scratch .now) (c .unread .ensures) (c .before .before .before .pre .0) (c .before .before .before .pre .1)
+loop-holds c = let a = c .before .before .before in holds-start (a .args .u) (a .args .block .now) (c .unread .result) (a .args .scratch .now) (c .unread .ensures) (a .pre .0) (a .pre .1)
 
-line-end-requires : tie.Need-line-end-requires Inv-loop μ-loop
-line-end-requires c κs = search needs
+clean-end-requires : tie.Need-clean-end-requires Inv-loop μ-loop
+clean-end-requires c κs = search needs
+
+enum-known-end : tie.Need-enum-known-end Inv-loop μ-loop
+enum-known-end c = search needs
+
+enum-told : tie.Need-enum-told Inv-loop μ-loop
+enum-told c = search needs
+
+same-length : tie.Need-same-length Inv-loop μ-loop
+same-length c = let k = c .before .before .before .before in k .loop .inv .1 ∙ sym (k .before .before .before .before .pre .0)
+
+returns : tie.Need-returns Inv-loop μ-loop
+returns c = let l = c .before .before in let k = l .before .before in let a = k .before .before .before .before in (k .loop .inv .1, unclean (a .args .u) (a .args .block .now) (k .loop .at) (k .loop .p) (k .loop .scratch) (k .loop .inv .4) (l .before .loop-test .taken) (looked-wrong (a .args .block .now) (k .loop .at) (l .clean-end .result) (c .enum-told .given .1) (l .clean-end .ensures)))
 
 line-step-requires : tie.Need-line-step-requires Inv-loop μ-loop
-line-step-requires c κs = (c .before .before .before .loop .inv .1, c .before .before .before .loop .inv .2, c .before .before .before .loop .inv .3, c .before .line-end .ensures .low, c .before .line-end .ensures .high (c .before .before .before .loop .inv .0), c .before .before .before .before .before .before .before .pre .2)
+line-step-requires c κs = let m = c .before .before in let l = m .before .before in let k = l .before .before in let a = k .before .before .before .before in let d = looked-end (a .args .block .now) (k .loop .at) (l .clean-end .result) _ (m .end .given .1) (l .clean-end .ensures) in (k .loop .inv .1, k .loop .inv .2, k .loop .inv .3, d .end .low, d .end .high (k .loop .inv .0), part-clean _ _ _ d, a .pre .2)
 
 enum-known-next : tie.Need-enum-known-next Inv-loop μ-loop
 enum-known-next c = search needs
@@ -34,37 +46,37 @@ rows-run-requires : tie.Need-rows-run-requires Inv-loop μ-loop
 rows-run-requires c κs = search needs
 
 loop-less : tie.Need-loop-less Inv-loop μ-loop
-loop-less c = let l = c .before .before .before .before .before .before .before .before .before .before .before .before in omega (arith, l .line-end .ensures .more (l .before .loop-test .taken), l .line-end .ensures .high (l .before .before .loop .inv .0), c .before .before .before .rows-run .ensures .1 .low)
+loop-less c = let m = c .before .before .before .before .before .before .before .before .before .before .before .before .before in let l = m .before .before in let k = l .before .before in let a = k .before .before .before .before in let d = looked-end (a .args .block .now) (k .loop .at) (l .clean-end .result) _ (m .end .given .1) (l .clean-end .ensures) in omega (arith, d .end .more (l .before .loop-test .taken), d .end .high (k .loop .inv .0), c .before .before .before .rows-run .ensures .1 .low)
 
 loop-again : tie.Need-loop-again Inv-loop μ-loop
-loop-again c = let s = c .before .before .before .before .before .before .before .before .before .before in let n = c .before .before .before .before .before .before .next .given .1 in let l = s .before .before in let k = l .before .before in let a = k .before .before .before .before in ran-on (a .args .u) (a .args .block .now) (l .line-end .result) _ (s .line-step .last .1 .1 .1 .1 .1 .0) (c .before .before .before .rows-run .last .1 .1 .1 .1 .0) (c .before .before .before .rows-run .result) (c .before .before .before .rows-run .ensures .1) (bounded-go _ (s .line-step .result) _ n (s .line-step .ensures .1)) (a .pre .2 .low) (l .line-end .ensures .high (k .loop .inv .0)) (c .before .before .before .rows-run .ensures .0 ∙ s .line-step .ensures .0) (flowing-go _ (s .line-step .result) _ n (s .line-step .ensures .2)) (went (a .args .u) (a .args .block .now) (k .loop .at) (l .line-end .result) (k .loop .p) (k .loop .scratch) (s .line-step .last .1 .1 .1 .1 .1 .0) (k .loop .inv .4) (l .before .loop-test .taken) (l .line-end .ensures) (s .line-step .result) (s .line-step .ensures .3) _ n)
+loop-again c = let s = c .before .before .before .before .before .before .before .before .before .before in let n = c .before .before .before .before .before .before .next .given .1 in let m = s .before .before .before in let l = m .before .before in let k = l .before .before in let a = k .before .before .before .before in let d = looked-end (a .args .block .now) (k .loop .at) (l .clean-end .result) _ (m .end .given .1) (l .clean-end .ensures) in ran-on (a .args .u) (a .args .block .now) _ _ (s .line-step .last .1 .1 .1 .1 .1 .0) (c .before .before .before .rows-run .last .1 .1 .1 .1 .0) (c .before .before .before .rows-run .result) (c .before .before .before .rows-run .ensures .1) (bounded-go _ (s .line-step .result) _ n (s .line-step .ensures .1)) (a .pre .2 .low) (d .end .high (k .loop .inv .0)) (c .before .before .before .rows-run .ensures .0 ∙ s .line-step .ensures .0) (flowing-go _ (s .line-step .result) _ n (s .line-step .ensures .2)) (went (a .args .u) (a .args .block .now) (k .loop .at) _ (k .loop .p) (k .loop .scratch) (s .line-step .last .1 .1 .1 .1 .1 .0) (k .loop .inv .4) (l .before .loop-test .taken) (d .end) (s .line-step .result) (s .line-step .ensures .3) _ n)
 
 enum-known-number : tie.Need-enum-known-number Inv-loop μ-loop
 enum-known-number c = search needs
 
-same-length : tie.Need-same-length Inv-loop μ-loop
-same-length c = c .before .before .before .before .before .line-step .ensures .0 ∙ sym (c .before .before .before .before .before .before .before .before .before .before .before .before .before .pre .0)
-
-returns : tie.Need-returns Inv-loop μ-loop
-returns c = (c .before .before .before .before .before .line-step .ensures .0, stopped (c .before .before .before .before .before .before .before .before .before .before .before .before .before .args .u) (c .before .before .before .before .before .before .before .before .before .before .before .before .before .args .block .now) (c .before .before .before .before .before .before .before .before .before .loop .at) (c .before .before .before .before .before .before .before .line-end .result) (c .before .before .before .before .before .before .before .before .before .loop .p) (c .before .before .before .before .before .before .before .before .before .loop .scratch) (c .before .before .before .before .before .line-step .last .1 .1 .1 .1 .1 .0) (c .before .before .before .before .before .before .before .before .before .loop .inv .4) (c .before .before .before .before .before .before .before .before .loop-test .taken) (c .before .before .before .before .before .before .before .line-end .ensures) (c .before .before .before .before .before .line-step .result) (c .before .before .before .before .before .line-step .ensures .3) _ (c .before .number .given .1))
-
 same-length-2 : tie.Need-same-length-2 Inv-loop μ-loop
-same-length-2 c = c .before .before .before .loop .inv .1 ∙ sym (c .before .before .before .before .before .before .before .pre .0)
+same-length-2 c = let s = c .before .before .before .before .before in s .line-step .ensures .0 ∙ sym (s .before .before .before .before .before .before .before .before .before .before .before .pre .0)
 
 returns-2 : tie.Need-returns-2 Inv-loop μ-loop
-returns-2 c = (c .before .before .before .loop .inv .1, accepts (c .before .before .before .before .before .before .before .args .u) (c .before .before .before .before .before .before .before .args .block .now) (c .before .before .before .loop .at) (c .before .before .before .loop .p) (c .before .before .before .loop .scratch) (c .before .before .before .loop .inv .4) (c .before .before .loop-test .left) (c .before .before .before .loop .inv .2) (c .if1 .taken))
+returns-2 c = let s = c .before .before .before .before .before in let m = s .before .before .before in let l = m .before .before in let k = l .before .before in let a = k .before .before .before .before in let d = looked-end (a .args .block .now) (k .loop .at) (l .clean-end .result) _ (m .end .given .1) (l .clean-end .ensures) in (s .line-step .ensures .0, stopped (a .args .u) (a .args .block .now) (k .loop .at) _ (k .loop .p) (k .loop .scratch) (s .line-step .last .1 .1 .1 .1 .1 .0) (k .loop .inv .4) (l .before .loop-test .taken) (d .end) (s .line-step .result) (s .line-step .ensures .3) _ (c .before .number .given .1))
 
 same-length-3 : tie.Need-same-length-3 Inv-loop μ-loop
-same-length-3 c = c .before .before .before .before .before .loop .inv .1 ∙ sym (c .before .before .before .before .before .before .before .before .before .pre .0)
+same-length-3 c = let k = c .before .before .before in k .loop .inv .1 ∙ sym (k .before .before .before .before .pre .0)
 
 returns-3 : tie.Need-returns-3 Inv-loop μ-loop
-returns-3 c = (c .before .before .before .before .before .loop .inv .1, empty-refused (c .before .before .before .before .before .before .before .before .before .args .u) (c .before .before .before .before .before .before .before .before .before .args .block .now) (c .before .before .before .before .before .loop .at) (c .before .before .before .before .before .loop .p) (c .before .before .before .before .before .loop .scratch) (c .before .before .before .before .before .loop .inv .4) (c .before .before .before .before .loop-test .left) (c .before .before .before .before .before .loop .inv .2) (c .before .before .if1 .left) (c .if2 .taken))
+returns-3 c = let k = c .before .before .before in let a = k .before .before .before .before in (k .loop .inv .1, accepts (a .args .u) (a .args .block .now) (k .loop .at) (k .loop .p) (k .loop .scratch) (k .loop .inv .4) (c .before .before .loop-test .left) (k .loop .inv .2) (c .if1 .taken))
 
 same-length-4 : tie.Need-same-length-4 Inv-loop μ-loop
-same-length-4 c = c .before .before .before .before .before .loop .inv .1 ∙ sym (c .before .before .before .before .before .before .before .before .before .pre .0)
+same-length-4 c = let k = c .before .before .before .before .before in k .loop .inv .1 ∙ sym (k .before .before .before .before .pre .0)
 
 returns-4 : tie.Need-returns-4 Inv-loop μ-loop
-returns-4 c = (c .before .before .before .before .before .loop .inv .1, endless-refused (c .before .before .before .before .before .before .before .before .before .args .u) (c .before .before .before .before .before .before .before .before .before .args .block .now) (c .before .before .before .before .before .loop .at) (c .before .before .before .before .before .loop .p) (c .before .before .before .before .before .loop .scratch) (c .before .before .before .before .before .loop .inv .4) (c .before .before .before .before .loop-test .left) (c .before .before .before .before .before .loop .inv .2) (c .before .before .if1 .left) (c .if2 .left))
+returns-4 c = let k = c .before .before .before .before .before in let a = k .before .before .before .before in (k .loop .inv .1, empty-refused (a .args .u) (a .args .block .now) (k .loop .at) (k .loop .p) (k .loop .scratch) (k .loop .inv .4) (c .before .before .before .before .loop-test .left) (k .loop .inv .2) (c .before .before .if1 .left) (c .if2 .taken))
+
+same-length-5 : tie.Need-same-length-5 Inv-loop μ-loop
+same-length-5 c = let k = c .before .before .before .before .before in k .loop .inv .1 ∙ sym (k .before .before .before .before .pre .0)
+
+returns-5 : tie.Need-returns-5 Inv-loop μ-loop
+returns-5 c = let k = c .before .before .before .before .before in let a = k .before .before .before .before in (k .loop .inv .1, endless-refused (a .args .u) (a .args .block .now) (k .loop .at) (k .loop .p) (k .loop .scratch) (k .loop .inv .4) (c .before .before .before .before .loop-test .left) (k .loop .inv .2) (c .before .before .if1 .left) (c .if2 .left))
 
 pub judge-spec : {M : Type 1} → statement M
 judge-spec =
@@ -74,18 +86,22 @@ judge-spec =
     μ-loop
     unread-requires
     loop-holds
-    line-end-requires
+    clean-end-requires
+    enum-known-end
+    enum-told
+    same-length
+    returns
     line-step-requires
     enum-known-next
     rows-run-requires
     loop-less
     loop-again
     enum-known-number
-    same-length
-    returns
     same-length-2
     returns-2
     same-length-3
     returns-3
     same-length-4
-    returns-4)
+    returns-4
+    same-length-5
+    returns-5)
