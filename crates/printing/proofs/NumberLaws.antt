@@ -29,6 +29,15 @@ pub digits-laid : {b b′ : Bytes} {at r : ℕ} (n : ℕ) → Laid b at (digitsI
 unfolding digits
 digits-laid n p = p
 
+-- a number of one digit, and of two
+pub digits-single : (n : ℕ) → n < 10 → (48 + n) ∷ [] ≡ digits n
+unfolding digits
+digits-single n h = digits-one 6 n (λ e. absurd (omega arith)) h
+
+pub digits-double : (n : ℕ) → 10 ≤ n → n < 100 → ((48 + n / 10) ∷ []) ++ ((48 + n % 10) ∷ []) ≡ digits n
+unfolding digits
+digits-double n l h = ap (λ w. w ++ ((48 + n % 10) ∷ [])) (digits-one 5 (n / 10) (λ e. absurd (omega arith)) (omega arith)) ∙ digits-more 6 n (λ e. absurd (omega arith)) l
+
 -- a number that is left out where it is zero
 pub zero-left-out : (n : ℕ) (w : Bytes) → n ≡ 0 → [] ≡ spaced (unlessZero n w)
 zero-left-out n w e = sym (ap (λ k. spaced (unlessZero k w)) e ∙ spaced-none)

@@ -107,10 +107,17 @@ fn put_digits(buffer: &mut [u8], at: usize, number: u32, most: u32) -> usize
     put(buffer, last, 48 + (number % 10) as u8)
 }
 
-// A number.
+// A number. Most have one digit or two, and are printed without the recursion.
 pub fn put_number(buffer: &mut [u8], at: usize, number: u32) -> usize
     ensures { λ r. ⌜ Laid (now (buffer .entry)) at (digits number) (now (buffer .exit)) r ⌝ }
 {
+    if number < 10 {
+        return put(buffer, at, 48 + number as u8);
+    }
+    if number < 100 {
+        let tens = put(buffer, at, 48 + (number / 10) as u8);
+        return put(buffer, tens, 48 + (number % 10) as u8);
+    }
     put_digits(buffer, at, number, 6)
 }
 
