@@ -37,7 +37,7 @@ loop-less : tie.Need-loop-less Inv-loop μ-loop
 loop-less c = omega arith
 
 loop-again : tie.Need-loop-again Inv-loop μ-loop
-loop-again c = (omega arith, simp length-set (omega arith), omega arith, lay-on _ _ (omega arith) (omega arith) refl (c .before .before .loop .inv .3))
+loop-again c = (omega arith, simp length-set (omega arith), omega arith, lay-on (c .before .before .before .before .before .before .args .text .now) (c .before .before .loop .i) (omega arith) (omega arith) refl (c .before .before .loop .inv .3))
 
 same-length : tie.Need-same-length Inv-loop μ-loop
 same-length c = c .before .loop .inv .1
