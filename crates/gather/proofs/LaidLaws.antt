@@ -20,8 +20,8 @@ use Rattle.format.specs.Reading.{State, withBody, withAtoms, withRows}
 use Rattle.sorted.specs.Regions.{kindCells, kindsRegion, membersFrom, arrived, voidOf, spreadRegion, keyedCells, keyedRegion, seenFrom}
 use Rattle.gather.specs.Progress.{laid, Counted, Listed, countOf}
 use Rattle.gather.specs.declared.progress.Progress.{Progress}
-use Rattle.gather.proofs.PlaceLaws.{arrived-length}
-use Rattle.gather.proofs.SpreadLaws.{members-length}
+use Rattle.spread.proofs.PlaceLaws.{arrived-length}
+use Rattle.spread.proofs.SpreadLaws.{members-length}
 
 -- A REGION'S SEAT: what stands there, and what the whole is with another list there
 pub record Seated (t : List ℕ) (from size : ℕ) (region : List ℕ) (put : List ℕ → List ℕ) : Type 0 where

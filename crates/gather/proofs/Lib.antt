@@ -1,9 +1,5 @@
 -- The laws of a list's line, file by file. Assumes nothing.
 pub mod StepLaws
-pub mod PlaceLaws
-pub mod MemberLaws
-pub mod SpreadLaws
-pub mod SpreadRowLaws
 pub mod KindLaws
 pub mod AtomLineLaws
 pub mod LaidLaws

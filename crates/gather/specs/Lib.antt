@@ -2,5 +2,4 @@
 pub mod Progress
 pub mod Shows
 pub mod ListLine
-pub mod Members
 pub mod Runs

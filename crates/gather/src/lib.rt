@@ -2,7 +2,6 @@
 mod atoms; // atoms.rt: lines of ATOMLIST
 pub mod progress; // progress.rt: what is known before a line
 mod runs; // runs.rt: quick rows one behind the other
-mod spread; // spread.rt: CHARGE and RADICAL
 mod turns; // turns.rt: each list's line in the whole scratch
 
 ghost use mathlib.Core.Path.{_≡_};

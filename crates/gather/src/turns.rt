@@ -11,11 +11,11 @@ ghost use Rattle.gather.specs.Shows.{Shows, ShowsTurn};
 use crate::atoms::atom_line;
 use crate::progress::Progress;
 use crate::progress::Turn;
-use crate::spread::spread_line;
 use sorted::after::RowAfter;
 use sorted::keyed::bond_line;
 use sorted::keyed::centre_line;
 use sorted::keyed::pair_line;
+use spread::spread_line;
 
 // A line of ATOMLIST.
 pub fn atoms_turn(line: &[u8], last: u32, p: Progress, scratch: &mut [u32]) -> Turn
@@ -60,12 +60,6 @@ pub fn charges_turn(line: &[u8], p: Progress, scratch: &mut [u32]) -> Turn
     ensures { λ r. ⌜ (length (now (scratch .exit)) ≡ 2960) × (Counted p → CountedTurn p r × ((k : ℕ) (block : Bytes) (at : ℕ) (st : State) → Shows k block at p (now (scratch .entry)) st →
         ShowsTurn k block at r (now (scratch .exit)) (rowLine Charges st (fields (now (line .entry)))))) ⌝ }
 {
-    if 256 < p.atoms {
-        return Turn::Stop(0);
-    }
-    if 64 < p.charges {
-        return Turn::Stop(0);
-    }
     let after = spread_line(line, true, p.atoms, p.charges, &mut scratch[768..1089]);
     match after {
         RowAfter::Kept(count) => {
@@ -83,12 +77,6 @@ pub fn radicals_turn(line: &[u8], p: Progress, scratch: &mut [u32]) -> Turn
     ensures { λ r. ⌜ (length (now (scratch .exit)) ≡ 2960) × (Counted p → CountedTurn p r × ((k : ℕ) (block : Bytes) (at : ℕ) (st : State) → Shows k block at p (now (scratch .entry)) st →
         ShowsTurn k block at r (now (scratch .exit)) (rowLine Radicals st (fields (now (line .entry)))))) ⌝ }
 {
-    if 256 < p.atoms {
-        return Turn::Stop(0);
-    }
-    if 64 < p.radicals {
-        return Turn::Stop(0);
-    }
     let after = spread_line(line, false, p.atoms, p.radicals, &mut scratch[1089..1410]);
     match after {
         RowAfter::Kept(count) => {

@@ -21,9 +21,9 @@ use Rattle.format.specs.Bytes.{isIn}
 use Rattle.format.specs.Rows.{Row}
 use Rattle.format.specs.Structure.{meets, overlap, atomsBefore, rowBefore}
 use Rattle.format.proofs.OrderLaws.{row-strict, overlap-order, overlap-self}
-use Rattle.gather.specs.Members.{listOf}
-use Rattle.gather.proofs.SpreadLaws.{meets-spread}
-use Rattle.gather.proofs.PlaceLaws.{has, void, tells, frontOf, front-in, front-out, front-none, front-some, alone, alone-in}
+use Rattle.spread.specs.Members.{listOf}
+use Rattle.spread.proofs.SpreadLaws.{meets-spread}
+use Rattle.spread.proofs.PlaceLaws.{has, void, tells, frontOf, front-in, front-out, front-none, front-some, alone, alone-in}
 
 -- A MEMBER OF A LIST passes a test: one does, and each that all do
 pub any-member : (p : ℕ → Bool) (n : ℕ) (ns : List ℕ) → isIn n ns ≡ true → p n ≡ true → any p ns ≡ true

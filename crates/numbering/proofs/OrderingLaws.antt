@@ -17,9 +17,9 @@ use Rattle.format.specs.Rows.{Row}
 use Rattle.format.specs.Structure.{rowBefore}
 use Rattle.format.specs.Table.{rowWith}
 use Rattle.sorted.specs.Regions.{Fits, memberOf, membersFrom, voidOf, arrived, spreadRegion}
-use Rattle.gather.specs.Members.{listOf}
-use Rattle.gather.proofs.PlaceLaws.{getD-front, arrived-length}
-use Rattle.gather.proofs.SpreadLaws.{members-zero, members-suc, members-at, members-length, region-is, last-cell}
+use Rattle.spread.specs.Members.{listOf}
+use Rattle.spread.proofs.PlaceLaws.{getD-front, arrived-length}
+use Rattle.spread.proofs.SpreadLaws.{members-zero, members-suc, members-at, members-length, region-is, last-cell}
 use Rattle.numbering.specs.Numbering.{isNew, nextAfter, orderAfter, numbered, withVoid, Renumbered, putAt, through}
 use Rattle.numbering.proofs.NumberingLaws.{numbered-cons, numbered-nil}
 use Rattle.numbering.proofs.RenumberLaws.{renumbered}

@@ -25,9 +25,9 @@ use Rattle.format.proofs.ByteLaws.{within-true, within-low}
 use Rattle.format.proofs.OrderLaws.{row-strict, rows-apart, meets-symm}
 use Rattle.sorted.specs.Regions.{Fits, membersFrom, voidOf, arrived}
 use Rattle.sorted.proofs.FitLaws.{row-fits}
-use Rattle.gather.specs.Members.{listOf}
-use Rattle.gather.proofs.SpreadLaws.{members-zero, members-suc}
-use Rattle.gather.proofs.PlaceLaws.{has, void, tells, backOf, frontOf, codeOf, back-none, front-none, back-some, front-some, any-at, back-at, front-at, back-both, front-both, back-same, front-same, back-value, front-value, member-back, void-back, with-front}
+use Rattle.spread.specs.Members.{listOf}
+use Rattle.spread.proofs.SpreadLaws.{members-zero, members-suc}
+use Rattle.spread.proofs.PlaceLaws.{has, void, tells, backOf, frontOf, codeOf, back-none, front-none, back-some, front-some, any-at, back-at, front-at, back-both, front-both, back-same, front-same, back-value, front-value, member-back, void-back, with-front}
 use Rattle.numbering.specs.Numbering.{isNew, nextAfter, orderAfter, numbered, withVoid, Renumbered}
 use Rattle.numbering.proofs.AppearLaws.{all-member, tells-alone, rising, InOrder, appears, void-last}
 use Rattle.numbering.proofs.NumberingLaws.{numbered-cons, numbered-nil, Numberings, Going, pass}

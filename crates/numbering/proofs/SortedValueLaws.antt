@@ -16,7 +16,7 @@ use Rattle.lists.proofs.SortLaws.{sort-length}
 use Rattle.format.specs.Rows.{Row}
 use Rattle.format.specs.Structure.{rowBefore}
 use Rattle.sorted.specs.Regions.{arrived, coded, spreadRegion}
-use Rattle.gather.proofs.PlaceLaws.{arrived-length, getD-front, codeOf}
+use Rattle.spread.proofs.PlaceLaws.{arrived-length, getD-front, codeOf}
 use Rattle.numbering.specs.Numbering.{Renumbered, putAt, through}
 use Rattle.numbering.proofs.RenumberLaws.{getD-zeros, blank-at}
 use Rattle.numbering.proofs.OrderingLaws.{put-is, through-nil, through-cons, region-values}

@@ -11,7 +11,7 @@ use Rattle.format.specs.Rows.{Row, row}
 use Rattle.format.specs.Structure.{rowBefore}
 use Rattle.format.specs.Table.{rowWith}
 use Rattle.sorted.specs.Regions.{memberOf, coded, spreadRegion, Fits}
-use Rattle.gather.specs.Members.{listOf}
+use Rattle.spread.specs.Members.{listOf}
 
 -- What a renumbering of charge or radical rows says: for each atom its row's number among the sorted rows, and the sorted rows' values as codes
 pub record Renumbers (rs : List Row) (order values : List ℕ) : Type 0 where

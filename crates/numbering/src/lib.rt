@@ -10,7 +10,7 @@ ghost use Rattle.lists.specs.Order.{sort};
 ghost use Rattle.format.specs.Rows.{Row};
 ghost use Rattle.format.specs.Structure.{rowBefore};
 ghost use Rattle.sorted.specs.Regions.{Fits, spreadRegion, coded};
-ghost use Rattle.gather.specs.Members.{listOf};
+ghost use Rattle.spread.specs.Members.{listOf};
 ghost use Rattle.numbering.specs.Numbering.{isNew, nextAfter, orderAfter, withVoid, Renumbered, putAt};
 ghost use Rattle.numbering.specs.Renumbers.{Renumbering};
 

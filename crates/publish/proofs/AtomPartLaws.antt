@@ -25,7 +25,7 @@ use Rattle.format.proofs.RowLaws.{atom-fine}
 use Rattle.sorted.specs.Regions.{kindCells, kindsRegion, memberOf, membersFrom, arrived, voidOf, coded, spreadRegion, Fits}
 use Rattle.lists.proofs.IndexLaws.{all-every}
 use Rattle.sorted.proofs.FitLaws.{row-fits}
-use Rattle.gather.proofs.SpreadLaws.{members-at, members-length, region-is}
+use Rattle.spread.proofs.SpreadLaws.{members-at, members-length, region-is}
 use Rattle.numbering.specs.Renumbers.{Renumbers}
 use Rattle.publish.specs.Published.{signedOf, copied, valueOf, valueOut, numberIn, atomOut, gathered, atomsOut}
 use Rattle.publish.proofs.FillLaws.{signed-small, cell-drop}

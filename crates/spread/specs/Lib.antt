@@ -1,0 +1,2 @@
+-- What a charge or radical row says, and how its members take its number. Assumes nothing.
+pub mod Members
