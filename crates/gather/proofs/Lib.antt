@@ -1,7 +1,6 @@
 -- The laws of a list's line, file by file. Assumes nothing.
 pub mod StepLaws
 pub mod KindLaws
-pub mod AtomLineLaws
 pub mod LaidLaws
 pub mod TurnLaws
 pub mod ListLineLaws

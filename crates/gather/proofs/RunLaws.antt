@@ -36,7 +36,7 @@ use Rattle.gather.specs.declared.progress.Turn.the-variants.{Go}
 use Rattle.sorted.specs.declared.after.RowAfter.{RowAfter}
 use Rattle.sorted.specs.declared.after.RowAfter.the-variants.{Kept}
 use Rattle.gather.specs.declared.runs.Run.{Run}
-use Rattle.gather.proofs.AtomLineLaws.{AtomShows, shows-joined}
+use Rattle.atoms.proofs.AtomLineLaws.{AtomShows, shows-joined}
 use Rattle.sorted.proofs.KeyedLines.{bond-shows}
 use Rattle.gather.proofs.TurnLaws.{atoms-turn, rows-turn}
 

@@ -111,7 +111,7 @@ counted-turn l p (R.Stop n) h f = tt
 pub put-long : (from size : ℕ) (t region : List ℕ) → length t ≡ 2960 → from + size ≤ 2960 → length region ≡ size → length (putMid from size t region) ≡ 2960
 put-long from size t region h k e = same-len-mid from size t region (e ∙ sym (length-take-le size (drop from t) (simp length-drop (omega arith)))) ∙ h
 
-part-long : (from size : ℕ) (t : List ℕ) → length t ≡ 2960 → from + size ≤ 2960 → length (take size (drop from t)) ≡ size
+pub part-long : (from size : ℕ) (t : List ℕ) → length t ≡ 2960 → from + size ≤ 2960 → length (take size (drop from t)) ≡ size
 part-long from size t h k = length-take-le size (drop from t) (simp length-drop (omega arith))
 
 region-within : (l : ListOf) → fromOf l + sizeOf l ≤ 2960
@@ -234,7 +234,20 @@ module _ (p : Progress) (t region : List ℕ) (fs : List Bytes) (r : RowAfter) (
         go (kept next) e s = rw (line-is (kept next) e, s .0) (atoms-shown next (atom-kept k low (st .body .atoms) next fs e) (s .1))
         go (refused n) e s = rw (line-is (refused n) e, s) refl
 
-  pub atoms-promise : (q : RowAfter) → r ≡ q → length t ≡ 2960 → length region ≡ 768 → ((c : ℕ) → r ≡ R.Kept c → c ≤ 256) →
-      (length (putMid 0 768 t region) ≡ 2960)
-      × (Counted p → 1 ≤ k → CountedTurn p (afterAtom p q) × ((block : Bytes) (at : ℕ) (st : State) → Shows k block at p t st → ShowsTurn k block at (afterAtom p q) (putMid 0 768 t region) (atomLine k st fs)))
-  atoms-promise q e long size bound = (put-long 0 768 t region long (omega arith) size, λ c low. (counted-atom p q c (λ n f. bound n (e ∙ f)), λ block at st h. rw (sym e) (atoms-turn low block at st h c)))
+-- what the line of an atom says, its part of the scratch being as long as it should
+abbrev pub AtomsTold : Progress → (t region : List ℕ) → List Bytes → RowAfter → (k : ℕ) → Type 0
+AtomsTold p t region fs r k =
+    length (take 768 (drop 0 t)) ≡ 768
+    → (length region ≡ 768)
+    × (Counted p
+    → ((c : ℕ) → r ≡ R.Kept c → c ≤ 256)
+    × ((listed : List Atom) → length listed ≡ p .atoms → take 768 (drop 0 t) ≡ kindsRegion listed → ShowsAfter kindsRegion region r (atomStep k listed fs)))
+
+pub atoms-promise : (p : Progress) (t region : List ℕ) (fs : List Bytes) (r : RowAfter) (k : ℕ) → AtomsTold p t region fs r k → (q : RowAfter) → r ≡ q → length t ≡ 2960 →
+    (length (putMid 0 768 t region) ≡ 2960)
+    × (Counted p → 1 ≤ k → CountedTurn p (afterAtom p q) × ((block : Bytes) (at : ℕ) (st : State) → Shows k block at p t st → ShowsTurn k block at (afterAtom p q) (putMid 0 768 t region) (atomLine k st fs)))
+atoms-promise p t region fs r k told q e long =
+    let w = told (part-long 0 768 t long (omega arith)) in (
+      put-long 0 768 t region long (omega arith) (w .0),
+      λ c low. (counted-atom p q c (λ n f. w .1 c .0 n (e ∙ f)), λ block at st h. rw (sym e) (atoms-turn p t region fs r k (w .1 c .1) low block at st h c)),
+    )

@@ -1,5 +1,4 @@
 // One line of a list among the rows that are there: document 01, "Rows". The scratch lent has a region for each list, sorted or as the rows came.
-mod atoms; // atoms.rt: lines of ATOMLIST
 pub mod progress; // progress.rt: what is known before a line
 mod runs; // runs.rt: quick rows one behind the other
 mod turns; // turns.rt: each list's line in the whole scratch

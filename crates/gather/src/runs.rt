@@ -3,7 +3,7 @@
 ghost use mathlib.Core.Path.{_≡_};
 ghost use lib.ListN.{length};
 ghost use Rattle.gather.specs.Runs.{AtomsRan, BondsRan};
-use crate::atoms::put_atom;
+use atoms::put_atom;
 use elements::isotope_of;
 use quick::atom::QuickAtom;
 use quick::atom::quick_atom;

@@ -8,9 +8,9 @@ ghost use Rattle.format.specs.Labels.{Bonds, Charges, Radicals, Centres, Pairs}
 ghost use Rattle.format.specs.Reading.{State, atomLine, rowLine};
 ghost use Rattle.gather.specs.Progress.{Counted, CountedTurn};
 ghost use Rattle.gather.specs.Shows.{Shows, ShowsTurn};
-use crate::atoms::atom_line;
 use crate::progress::Progress;
 use crate::progress::Turn;
+use atoms::atom_line;
 use sorted::after::RowAfter;
 use sorted::keyed::bond_line;
 use sorted::keyed::centre_line;
@@ -23,9 +23,6 @@ pub fn atoms_turn(line: &[u8], last: u32, p: Progress, scratch: &mut [u32]) -> T
     ensures { λ r. ⌜ (length (now (scratch .exit)) ≡ 2960) × (Counted p → 1 ≤ last → CountedTurn p r × ((block : Bytes) (at : ℕ) (st : State) → Shows last block at p (now (scratch .entry)) st →
         ShowsTurn last block at r (now (scratch .exit)) (atomLine last st (fields (now (line .entry)))))) ⌝ }
 {
-    if 256 < p.atoms {
-        return Turn::Stop(0);
-    }
     let after = atom_line(line, last, p.atoms, &mut scratch[0..768]);
     match after {
         RowAfter::Kept(count) => {

@@ -6,7 +6,7 @@ use borrow.Author.Needs.{needs}
 use lib.ListN.{length}
 use Rattle.quick.proofs.RowLaws.{atom-told}
 use Rattle.gather.specs.Runs.{AtomsRan}
-use Rattle.gather.proofs.TurnLaws.{put-long}
+use Rattle.gather.proofs.TurnLaws.{part-long, put-long}
 use Rattle.gather.proofs.RunLaws.{atoms-start, atoms-more}
 use Rattle.gather.proofs.runs.atom_run.Statement.{statement}
 use Rattle.gather.proofs.runs.atom_run.Tie as tie
@@ -72,7 +72,7 @@ loop-less : tie.Need-loop-less Inv-loop μ-loop
 loop-less c = omega arith
 
 loop-again : tie.Need-loop-again Inv-loop μ-loop
-loop-again c = let e = c .before .before .before .before in let n = e .before .before .before .before in let l = n .before .before .before .before in (put-long 0 768 (l .loop .scratch) (c .before .before .put-atom .last .0) (l .loop .inv .0) (omega arith) (c .before .before .put-atom .ensures .0), atoms-more _ _ _ _ _ _ _ _ (l .loop .inv .1) _ _ _ _ (atom-told _ _ _ (n .before .before .quick-atom .ensures) _ _ _ _ (n .number .given .1)) (e .before .before .if1 .left) _ (e .before .isotope-of .ensures) (e .if2 .left) (n .before .before .before .loop-test .taken) _ (c .before .before .put-atom .ensures .1))
+loop-again c = let e = c .before .before .before .before in let n = e .before .before .before .before in let l = n .before .before .before .before in let w = part-long 0 768 (l .loop .scratch) (l .loop .inv .0) (omega arith) in (put-long 0 768 (l .loop .scratch) (c .before .before .put-atom .last .0) (l .loop .inv .0) (omega arith) (c .before .before .put-atom .ensures .0 ∙ w), atoms-more _ _ _ _ _ _ _ _ (l .loop .inv .1) _ _ _ _ (atom-told _ _ _ (n .before .before .quick-atom .ensures) _ _ _ _ (n .number .given .1)) (e .before .before .if1 .left) _ (e .before .isotope-of .ensures) (e .if2 .left) (n .before .before .before .loop-test .taken) _ (c .before .before .put-atom .ensures .1 w (n .before .before .before .loop-test .taken)))
 
 same-length-4 : tie.Need-same-length-4 Inv-loop μ-loop
 same-length-4 c = c .before .loop .inv .0 ∙ sym (c .before .before .before .before .pre)

@@ -1,11 +1,18 @@
--- `gather::atoms::put_atom` meets its contract. Assumes nothing.
+-- `atoms::put_atom` meets its contract. Assumes nothing.
 use Prim.Native.Nat.{_*_}
+use mathlib.Core.Path.{refl}
 use native.Mathlib.Omega.{arith}
 use lib.ListN.{length-set}
-use Rattle.gather.proofs.AtomLineLaws.{stored-three}
+use Rattle.atoms.proofs.AtomLineLaws.{stored-three}
 use borrow.Author.Needs.{needs}
-use Rattle.gather.proofs.atoms.put_atom.Statement.{statement}
-use Rattle.gather.proofs.atoms.put_atom.Tie as tie
+use Rattle.atoms.proofs.put_atom.Statement.{statement}
+use Rattle.atoms.proofs.put_atom.Tie as tie
+
+returns : tie.Need-returns
+returns c = (refl, λ long. absurd (c .if1 .taken long), λ other. refl, λ full. refl)
+
+returns-2 : tie.Need-returns-2
+returns-2 c = (refl, λ long room. absurd (omega (arith, room)), λ other. refl, λ full. refl)
 
 mul-at : tie.Need-mul-at
 mul-at c = search needs
@@ -37,13 +44,15 @@ slice-write-region-3 c = simp length-set (omega arith)
 same-length : tie.Need-same-length
 same-length c = search needs
 
-returns : tie.Need-returns
-returns c = (simp length-set (omega arith), stored-three (c .args .region .now) (3 * c .args .atoms) (c .args .element) (c .args .mass) (c .args .hydrogens))
+returns-3 : tie.Need-returns-3
+returns-3 c = let a = c .before .before .args in (simp length-set refl, λ long room. stored-three (a .region .now) (3 * a .atoms) (a .element) (a .mass) (a .hydrogens), λ other. absurd (other (c .before .if1 .left)), λ full. absurd (omega (arith, full)))
 
 pub put-atom-spec : {M : Type 1} → statement M
 put-atom-spec =
     tie.close
     (tie.spec
+    returns
+    returns-2
     mul-at
     mul-region
     slice-write-region
@@ -54,4 +63,4 @@ put-atom-spec =
     mul-region-3
     slice-write-region-3
     same-length
-    returns)
+    returns-3)

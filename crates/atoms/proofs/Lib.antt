@@ -1,0 +1,2 @@
+-- The laws of lines of ATOMLIST. Assumes nothing.
+pub mod AtomLineLaws
