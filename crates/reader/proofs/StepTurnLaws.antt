@@ -3,6 +3,7 @@ use Prim.Native.Nat.{ℕ, zero, suc, _+_, _-_, _≤_, _<_}
 use mathlib.Core.Path.{_≡_, refl, sym, ap, _∙_}
 use mathlib.Core.Bool.{Bool, false, _||_}
 use mathlib.Core.List.{List, [], _∷_, _++_}
+use mathlib.Core.Logic.{_⊎_, inl, inr}
 use native.Mathlib.Omega.{arith}
 use lib.ListN.{length, take, drop, getD, set, length-drop}
 use lib.Seq.{length-take-le, take-take, take-add, drop-drop, drop-at}
@@ -187,6 +188,19 @@ list-code (suc (suc (suc (suc (suc (suc (suc (suc (suc (suc (suc (suc zero))))))
 list-code (suc (suc (suc (suc (suc (suc (suc (suc (suc (suc (suc (suc (suc zero))))))))))))) h a b d e c f y z = absurd (z refl)
 list-code (suc (suc (suc (suc (suc (suc (suc (suc (suc (suc (suc (suc (suc (suc n)))))))))))))) h a b d e c f y z = absurd (omega arith)
 
+-- the codes 3 and 4 as the code tests them, and the codes outside
+three-or-four : (n : ℕ) → 3 ≤ n → n < 5 → (n ≡ 3) ⊎ (n ≡ 4)
+three-or-four zero h k = absurd (omega arith)
+three-or-four (suc zero) h k = absurd (omega arith)
+three-or-four (suc (suc zero)) h k = absurd (omega arith)
+three-or-four (suc (suc (suc zero))) h k = inl refl
+three-or-four (suc (suc (suc (suc zero)))) h k = inr refl
+three-or-four (suc (suc (suc (suc (suc n))))) h k = absurd (omega arith)
+
+pub outside : (n : ℕ) → (n < 3) ⊎ (5 ≤ n) → (n ≡ 3 → ⊥) × (n ≡ 4 → ⊥)
+outside n (inl h) = (λ e. omega arith, λ e. omega arith)
+outside n (inr h) = (λ e. omega arith, λ e. omega arith)
+
 six-silent : (n : ℕ) → 6 ≤ n → silent n ≡ false
 six-silent n h = rw (ne-eqb n 1 (λ e. omega arith), ne-eqb n 3 (λ e. omega arith), ne-eqb n 4 (λ e. omega arith))
 
@@ -240,17 +254,25 @@ module _ (block : Bytes) (from end : ℕ) (u : Given) (p : Progress) (t : List �
       → ((st : State) → valueTurn (rulesOf u) (byCode (p .running) known .holds) st from (partOf block from end) ≡ going (withText st i (prose from (partOf block from end)))) → ValuePromise r t
   value-text r i q e = (long, q .0, q .1, λ at st s. turn-shown (u .last) block at r t _ _ (e st) (q .2 (u .last) at st s))
 
-  pub value-title : (r : Turn) → r ≡ Go (textPut (p .running) (partFrom from end) p) → p .running ≡ 1 → ValuePromise r t
+  value-title : (r : Turn) → r ≡ Go (textPut (p .running) (partFrom from end) p) → p .running ≡ 1 → ValuePromise r t
   unfolding byCode known label valueTurn
   value-title r q e = value-text r 0 (title-promise block from end p t b h l r q e) (λ st. value-at 1 e st)
 
-  pub value-origin : (r : Turn) → r ≡ Go (textPut (p .running) (partFrom from end) p) → p .running ≡ 3 → ValuePromise r t
+  value-origin : (r : Turn) → r ≡ Go (textPut (p .running) (partFrom from end) p) → p .running ≡ 3 → ValuePromise r t
   unfolding byCode known label valueTurn
   value-origin r q e = value-text r 1 (origin-promise block from end p t b h l r q e) (λ st. value-at 3 e st)
 
-  pub value-owner : (r : Turn) → r ≡ Go (textPut (p .running) (partFrom from end) p) → p .running ≡ 4 → ValuePromise r t
+  value-owner : (r : Turn) → r ≡ Go (textPut (p .running) (partFrom from end) p) → p .running ≡ 4 → ValuePromise r t
   unfolding byCode known label valueTurn
   value-owner r q e = value-text r 2 (owner-promise block from end p t b h l r q e) (λ st. value-at 4 e st)
+
+  pub value-prose : (r : Turn) → r ≡ Go (textPut (p .running) (partFrom from end) p) → (p .running ≡ 1) ⊎ ((3 ≤ p .running) × (p .running < 5)) → ValuePromise r t
+  value-prose r q (inl e) = value-title r q e
+  value-prose r q (inr h) = by (three-or-four (p .running) (h .0) (h .1))
+    where
+      by : (p .running ≡ 3) ⊎ (p .running ≡ 4) → ValuePromise r t
+      by (inl e) = value-origin r q e
+      by (inr e) = value-owner r q e
 
   module _ (m : ℕ) (c : Uncommented (partOf block from end) m) (r : Turn) where
     stripped : (F : Bytes → Turned) → F (strip (partOf block from end)) ≡ F (partOf block from (from + m))
@@ -379,17 +401,11 @@ module _ (block : Bytes) (at end : ℕ) (u : Given) (p : Progress) (t : List ℕ
       λ st s. turn-shown (u .last) block at r t _ _ (d st s ∙ ap (blankOr 9 st) (strip-part block at end m h l c)) (q .1 (u .last) block at t st s),
     )
 
-    pub further-version : p .running ≡ 2 → BlankPromise r 9 (partOf block at (at + m)) → FurtherPromise r t
+    pub further-single : (p .running ≡ 2) ⊎ ((p .running ≡ 5) ⊎ (p .running ≡ 12)) → BlankPromise r 9 (partOf block at (at + m)) → FurtherPromise r t
     unfolding byCode known label furtherTurn
-    further-version e q = further-blank (ap silent e) (λ st s. further-at 2 e st s) q
-
-    pub further-formula : p .running ≡ 5 → BlankPromise r 9 (partOf block at (at + m)) → FurtherPromise r t
-    unfolding byCode known label furtherTurn
-    further-formula e q = further-blank (ap silent e) (λ st s. further-at 5 e st s) q
-
-    pub further-id : p .running ≡ 12 → BlankPromise r 9 (partOf block at (at + m)) → FurtherPromise r t
-    unfolding byCode known label furtherTurn
-    further-id e q = further-blank (ap silent e) (λ st s. further-at 12 e st s) q
+    further-single (inl e) q = further-blank (ap silent e) (λ st s. further-at 2 e st s) q
+    further-single (inr (inl e)) q = further-blank (ap silent e) (λ st s. further-at 5 e st s) q
+    further-single (inr (inr e)) q = further-blank (ap silent e) (λ st s. further-at 12 e st s) q
 
     pub further-list : (s : List ℕ) → (6 ≤ p .running) × (p .running ≤ 11) → 1 ≤ u .last
         → ListPromise (u .last) p t r s (fields (partOf block at (at + m)))

@@ -126,7 +126,7 @@ fn text_turn(from: usize, to: usize, p: Progress) -> Turn
     Turn::Go(next)
 }
 
-// "What follows `=` on a label line counts as the record's first line": the value from `from` to `end`; the label is noted already.
+// "What follows `=` on a label line counts as the record's first line": the value from `from` to `end`; the label is noted already. Texts keep their `$$`: no comment is looked for.
 fn value_turn(
     block: &[u8],
     from: usize,
@@ -140,13 +140,13 @@ fn value_turn(
         ShowsTurn (u .last) (now (block .entry)) at r (now (scratch .exit)) (valueTurn (rulesOf u) (byCode (p .running) known .holds) st from (partOf (now (block .entry)) from end))) ⌝ }
 {
     let running = p.running;
-    let line = &block[from..end];
-    let to = from + uncommented(line);
     match running {
-        0 => Turn::Go(p),
-        1 => text_turn(from, end, p),
-        3 => text_turn(from, end, p),
-        4 => text_turn(from, end, p),
+        0 => return Turn::Go(p),
+        1 | 3 | 4 => return text_turn(from, end, p),
+        _ => {}
+    }
+    let to = from + uncommented(&block[from..end]);
+    match running {
         2 => version_turn(&block[from..to], p),
         5 => formula_turn(block, from, to, u.last, p),
         12 => id_turn(&block[from..to], p),
@@ -169,26 +169,26 @@ fn further_turn(
         ShowsTurn (u .last) (now (block .entry)) at r (now (scratch .exit)) (furtherTurn (rulesOf u) (st .running) st (partOf (now (block .entry)) at end))) ⌝ }
 {
     let running = p.running;
-    let line = &block[at..end];
-    let to = at + uncommented(line);
     match running {
-        0 => Turn::Go(p),
+        0 => return Turn::Go(p),
         1 => {
             let title = p.title;
-            text_turn(title.from, end, p)
+            return text_turn(title.from, end, p);
         }
         3 => {
             let origin = p.origin;
-            text_turn(origin.from, end, p)
+            return text_turn(origin.from, end, p);
         }
         4 => {
             let owner = p.owner;
-            text_turn(owner.from, end, p)
+            return text_turn(owner.from, end, p);
         }
-        2 => blank_or(&block[at..to], 9, p),
-        5 => blank_or(&block[at..to], 9, p),
-        12 => blank_or(&block[at..to], 9, p),
-        13 => blank_or(line, 17, p),
+        13 => return blank_or(&block[at..end], 17, p),
+        _ => {}
+    }
+    let to = at + uncommented(&block[at..end]);
+    match running {
+        2 | 5 | 12 => blank_or(&block[at..to], 9, p),
         _ => list_turn(&block[at..to], running, u.last, p, scratch),
     }
 }
