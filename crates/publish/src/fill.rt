@@ -3,20 +3,8 @@ ghost use mathlib.Core.Path.{_≡_};
 ghost use mathlib.Core.List.{[], _∷_};
 ghost use Prim.Native.Nat.{_+_, _*_, _≤_, _<_};
 ghost use lib.ListN.{length};
-ghost use Rattle.format.specs.Table.{zeros};
 ghost use Rattle.publish.specs.Published.{signedOf, placed, bondOut, centreOut, pairOut, copied};
 use format::Table;
-
-// Every number of the region is 0.
-pub fn clear_part(part: &mut [i32])
-    ensures { λ _. ⌜ now (part .exit) ≡ zeros (length (now (part .entry))) ⌝ }
-{
-    let mut i = 0;
-    while i < part.len() {
-        part[i] = 0;
-        i += 1;
-    }
-}
 
 // A number of the scratch as one of the table.
 pub fn put(part: &mut [i32], at: usize, number: u32)
@@ -76,7 +64,7 @@ pub fn fill_bonds(part: &mut [i32], region: &[u32], count: usize)
     requires { ⌜ (length (now part) ≡ 1536) × (length (now region) ≡ 1024) × (count ≤ 512) ⌝ }
     ensures { λ _. ⌜ now (part .exit) ≡ copied 2 bondOut 1536 count (now (region .entry)) ⌝ }
 {
-    clear_part(part);
+    clearing::clear_part(part);
     let mut i = 0;
     while i < count {
         let key = region[2 * i];
@@ -91,7 +79,7 @@ pub fn fill_centres(part: &mut [i32], region: &[u32], count: usize)
     requires { ⌜ (length (now part) ≡ 384) × (length (now region) ≡ 256) × (count ≤ 128) ⌝ }
     ensures { λ _. ⌜ now (part .exit) ≡ copied 2 centreOut 384 count (now (region .entry)) ⌝ }
 {
-    clear_part(part);
+    clearing::clear_part(part);
     let mut i = 0;
     while i < count {
         let key = region[2 * i];
@@ -106,7 +94,7 @@ pub fn fill_pairs(part: &mut [i32], region: &[u32], count: usize)
     requires { ⌜ (length (now part) ≡ 512) × (length (now region) ≡ 256) × (count ≤ 128) ⌝ }
     ensures { λ _. ⌜ now (part .exit) ≡ copied 2 pairOut 512 count (now (region .entry)) ⌝ }
 {
-    clear_part(part);
+    clearing::clear_part(part);
     let mut i = 0;
     while i < count {
         let key = region[2 * i];

@@ -59,7 +59,7 @@ pub fn fill_header(part: &mut [i32], block: &[u8], p: Progress)
     requires { ⌜ (length (now part) ≡ 16) × Bounded (length (now block)) p × (length (now block) ≤ 32768) ⌝ }
     ensures { λ _. ⌜ now (part .exit) ≡ headerOut (now (block .entry)) p ⌝ }
 {
-    fill::clear_part(part);
+    clearing::clear_part(part);
     put_counts(part, p);
     put_text(part, Table::FIRST_TEXT, block, p.title);
     put_text(part, Table::FIRST_TEXT + 2, block, p.origin);

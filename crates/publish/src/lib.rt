@@ -10,7 +10,7 @@ ghost use mathlib.Core.List.{_++_, map};
 ghost use Prim.Native.Nat.{ℕ, _≤_, _<_};
 ghost use lib.ListN.{length, drop};
 ghost use Rattle.format.specs.Reading.{State, finished, spanOf};
-ghost use Rattle.format.specs.Table.{zeros, encode};
+ghost use Rattle.format.specs.Table.{encode};
 ghost use Rattle.gather.specs.Progress.{Counted, Bounded, Holding};
 ghost use Rattle.publish.specs.Published.{spreadOut, markedOut, rowsOut, tableOut};
 use format::Table;
@@ -130,15 +130,4 @@ pub fn publish(block: &[u8], p: Progress, scratch: &[u32], table: &mut [i32])
         return;
     }
     put_structure(block, p, scratch, table);
-}
-
-// "zero the 3,856 numbers"; those beyond stay. A table shorter than that is untouched.
-pub fn clear(table: &mut [i32])
-    ensures { λ _. ⌜ (length (now (table .entry)) < 3856 → now (table .exit) ≡ now (table .entry)) × (3856 ≤ length (now (table .entry)) → now (table .exit) ≡ zeros 3856 ++ drop 3856 (now (table .entry))) ⌝ }
-{
-    if table.len() < Table::SIZE {
-        return;
-    }
-    let end = Table::SIZE;
-    fill::clear_part(&mut table[0..end]);
 }

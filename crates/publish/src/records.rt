@@ -24,7 +24,7 @@ pub fn fill_values(part: &mut [i32], values: &[u32], count: usize)
     requires { ⌜ (length (now part) ≡ 64) × (count ≤ 64) × (count ≤ length (now values)) ⌝ }
     ensures { λ _. ⌜ now (part .exit) ≡ copied 1 valueOut 64 count (now (values .entry)) ⌝ }
 {
-    fill::clear_part(part);
+    clearing::clear_part(part);
     let mut i = 0;
     while i < count {
         put_value(part, i, values[i]);
@@ -57,7 +57,7 @@ pub fn fill_atoms(
     requires { ⌜ (length (now part) ≡ 1280) × (length (now kinds) ≡ 768) × (256 ≤ length (now charges)) × (256 ≤ length (now radicals)) × (count ≤ 256) ⌝ }
     ensures { λ _. ⌜ now (part .exit) ≡ atomsOut (now (kinds .entry)) (now (charges .entry)) (now («charge_order» .entry)) (now (radicals .entry)) (now («radical_order» .entry)) count ⌝ }
 {
-    fill::clear_part(part);
+    clearing::clear_part(part);
     let mut i = 0;
     while i < count {
         let charge = number_in(charges, charge_order, i);

@@ -29,7 +29,7 @@ pub fn read(block: &[u8], table: &mut [i32]) -> Answer
         return Answer::Refused(1, 0);
     }
     if Table::BLOCK < block.len() {
-        publish::clear(table);
+        clearing::clear(table);
         return Answer::Refused(2, 0);
     }
     let mut scratch = [0u32; 2960];
@@ -47,7 +47,7 @@ pub fn read(block: &[u8], table: &mut [i32]) -> Answer
             Answer::Accepted
         }
         Judged::Refused(number, place) => {
-            publish::clear(table);
+            clearing::clear(table);
             Answer::Refused(number, place)
         }
     }

@@ -1,10 +1,10 @@
--- `publish::clear` meets its contract. Assumes nothing.
+-- `clearing::clear` meets its contract. Assumes nothing.
 use mathlib.Core.Path.{refl}
 use native.Mathlib.Omega.{arith}
-use Rattle.publish.proofs.FillLaws.{cleared}
+use Rattle.clearing.proofs.ClearLaws.{cleared}
 use borrow.Author.Needs.{needs}
-use Rattle.publish.proofs.clear.Statement.{statement}
-use Rattle.publish.proofs.clear.Tie as tie
+use Rattle.clearing.proofs.clear.Statement.{statement}
+use Rattle.clearing.proofs.clear.Tie as tie
 
 returns : tie.Need-returns
 returns c = (λ h. refl, λ h. absurd (omega (arith, h)))

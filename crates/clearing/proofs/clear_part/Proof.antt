@@ -1,13 +1,13 @@
--- `publish::fill::clear_part` meets its contract. Assumes nothing.
+-- `clearing::clear_part` meets its contract. Assumes nothing.
 use Prim.Native.Nat.{_-_, _≤_}
 use mathlib.Core.Path.{_≡_, refl}
 use mathlib.Core.List.{_++_}
 use native.Mathlib.Omega.{arith}
 use lib.ListN.{length, drop}
 use Rattle.format.specs.Table.{zeros}
-use Rattle.publish.proofs.FillLaws.{zeros-start, zeros-more, set-length, zeros-end}
-use Rattle.publish.proofs.fill.clear_part.Statement.{statement}
-use Rattle.publish.proofs.fill.clear_part.Tie as tie
+use Rattle.clearing.proofs.ClearLaws.{zeros-start, zeros-more, set-length, zeros-end}
+use Rattle.clearing.proofs.clear_part.Statement.{statement}
+use Rattle.clearing.proofs.clear_part.Tie as tie
 
 abbrev Inv-loop : tie.InvT-loop
 Inv-loop part₀ i₀ part i = (i ≤ length part₀) × (length part ≡ length part₀) × (part ≡ zeros i ++ drop i part₀)
