@@ -64,7 +64,7 @@ fn room(size: usize, at: usize, most: usize) -> usize
     most
 }
 
-// A text that does not pass the longest form, without a look at each place.
+// A text that does not pass the longest form: those of its bytes that have a place in the buffer.
 fn lay(buffer: &mut [u8], at: usize, text: &[u8])
     requires { ⌜ at + length (now text) ≤ 32768 ⌝ }
     ensures { λ _. ⌜ now (buffer .exit) ≡ over (now (buffer .entry)) at (now (text .entry)) ⌝ }
@@ -79,7 +79,7 @@ fn lay(buffer: &mut [u8], at: usize, text: &[u8])
     }
 }
 
-// The bytes of a text.
+// The bytes of a text. One that passes the longest form goes byte by byte, since places stop there; any other is laid without a test at each byte.
 pub fn put_text(buffer: &mut [u8], at: usize, text: &[u8]) -> usize
     ensures { λ r. ⌜ Laid (now (buffer .entry)) at (now (text .entry)) (now (buffer .exit)) r ⌝ }
 {
