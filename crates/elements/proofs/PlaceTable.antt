@@ -3,7 +3,7 @@
 use mathlib.Core.Path.{_≡_, refl}
 use mathlib.Core.Bool.{Bool, true, _&&_}
 use mathlib.Core.List.{List, [], _∷_}
-use Prim.Native.Nat.{ℕ, _<_}
+use Prim.Native.Nat.{ℕ, _*_, _<_}
 use lib.ListN.{length, getD}
 use lib.Dec.{eqb, ltb}
 use borrow.Author.Tests.{eqb-true, ltb-true}
@@ -39,3 +39,25 @@ module _ (k : ℕ) (h : k < 702) where
 
   pub entry-byte : getD places k 0 < 256
   entry-byte = ltb-true (getD places k 0) 256 (entry-right .1)
+
+-- the elements of one letter, A to Z, by the same rule
+unfoldable pub singles : List ℕ
+singles = 0 ∷ 5 ∷ 6 ∷ 0 ∷ 0 ∷ 9 ∷ 0 ∷ 1 ∷ 53 ∷ 0 ∷ 19 ∷ 0 ∷ 0 ∷ 7 ∷ 8 ∷ 15 ∷ 0 ∷ 0 ∷ 16 ∷ 0 ∷ 92 ∷ 23 ∷ 74 ∷ 0 ∷ 39 ∷ 0 ∷ []
+
+unfoldable single-right : ℕ → ℕ → Bool
+single-right k x = right (k * 27) x
+
+all-single-right : every single-right 0 singles ≡ true
+unfolding every right single-right singles placeOf spelling symbols sameBy any bytes blank gap consTo fields
+all-single-right = refl
+
+module _ (k : ℕ) (h : k < 26) where
+  single-both : (eqb (getD singles k 0) (placeOf 1 (spelling (k * 27)) symbols) ≡ true) × (ltb (getD singles k 0) 256 ≡ true)
+  unfolding right single-right singles
+  single-both = and-parts (eqb (getD singles k 0) (placeOf 1 (spelling (k * 27)) symbols)) (ltb (getD singles k 0) 256) (at-each single-right singles all-single-right k h)
+
+  pub single-place : getD singles k 0 ≡ placeOf 1 (spelling (k * 27)) symbols
+  single-place = eqb-true (getD singles k 0) (placeOf 1 (spelling (k * 27)) symbols) (single-both .0)
+
+  pub single-byte : getD singles k 0 < 256
+  single-byte = ltb-true (getD singles k 0) 256 (single-both .1)

@@ -10,13 +10,60 @@ ghost use Rattle.format.specs.Structure.{symbols, placeOf, letters, isotope, ma
 ghost use Rattle.elements.specs.Spelling.{spelling, upTo};
 ghost use Rattle.symbols.specs.ShownSymbols.{symOfMark};
 ghost use Rattle.elements.specs.Shown.{isotopeShown};
-use crate::places::entry_at;
+use crate::places::PLACES;
 use symbols::Mark;
 
 // An element (0 unknown) and a mass (0 none).
 pub struct Isotope {
     pub element: u32,
     pub mass: u32,
+}
+
+// "Symbols are those of elements 1 (H) to 103 (Lr)": those of one letter, A to Z; 0 where no element has it. A table is put on the stack where it is read, and most
+// atoms have one letter, so that they are not looked up among the 702.
+const LETTERS: [u8; 26] = [
+    0,
+    5,
+    6,
+    0,
+    0,
+    9,
+    0,
+    1,
+    53,
+    0,
+    19,
+    0,
+    0,
+    7,
+    8,
+    15,
+    0,
+    0,
+    16,
+    0,
+    92,
+    23,
+    74,
+    0,
+    39,
+    0,
+];
+
+// The element whose one letter has the number k, 0 for A.
+fn letter_at(k: usize) -> u32
+    requires { ⌜ k < 26 ⌝ }
+    ensures { λ r. ⌜ r ≡ placeOf 1 (spelling (k * 27)) symbols ⌝ }
+{
+    LETTERS[k] as u32
+}
+
+// The element whose letters have the number k: the upper-case letter's place times 27, and the lower-case letter's (0 where there is none).
+fn entry_at(k: usize) -> u32
+    requires { ⌜ k < 702 ⌝ }
+    ensures { λ r. ⌜ r ≡ placeOf 1 (spelling k) symbols ⌝ }
+{
+    PLACES[k] as u32
 }
 
 // An element that is among the first `last`, or 0.
@@ -38,7 +85,7 @@ fn element_of(first: u8, second: u8, last: u32) -> u32
     }
     let letter = first as usize - 65;
     if second == 0 {
-        return among(entry_at(letter * 27), last);
+        return among(letter_at(letter), last);
     }
     if second < 97 {
         return 0;

@@ -15,17 +15,14 @@ returns-2 c = let x = c .before .before .args in no-first (x .first) (x .second)
 sub-letter : tie.Need-sub-letter
 sub-letter c = search needs
 
-mul-entry-at : tie.Need-mul-entry-at
-mul-entry-at c = search needs
-
-entry-at-requires : tie.Need-entry-at-requires
-entry-at-requires c κs = search needs
+letter-at-requires : tie.Need-letter-at-requires
+letter-at-requires c κs = search needs
 
 among-requires : tie.Need-among-requires
 among-requires c κs = search needs
 
 returns-3 : tie.Need-returns-3
-returns-3 c = one-letter _ _ _ (omega arith) (omega arith) _ _ (c .among .ensures) (c .before .before .if3 .taken) (c .before .entry-at .ensures)
+returns-3 c = one-letter _ _ _ (omega arith) (omega arith) _ _ (c .among .ensures) (c .before .before .if3 .taken) (c .before .letter-at .ensures)
 
 returns-4 : tie.Need-returns-4
 returns-4 c = let x = c .before .before .before .before .args in no-second (x .first) (x .second) (x .last) (c .before .if3 .left) (within-low _ _ _ (omega arith))
@@ -33,8 +30,8 @@ returns-4 c = let x = c .before .before .before .before .args in no-second (x .f
 returns-5 : tie.Need-returns-5
 returns-5 c = let x = c .before .before .before .before .before .args in no-second (x .first) (x .second) (x .last) (c .before .before .if3 .left) (within-high _ _ _ (omega arith))
 
-mul-entry-at-2 : tie.Need-mul-entry-at-2
-mul-entry-at-2 c = search needs
+mul-entry-at : tie.Need-mul-entry-at
+mul-entry-at c = search needs
 
 sub-entry-at : tie.Need-sub-entry-at
 sub-entry-at c = search needs
@@ -42,14 +39,14 @@ sub-entry-at c = search needs
 add-entry-at : tie.Need-add-entry-at
 add-entry-at c = search needs
 
-entry-at-requires-2 : tie.Need-entry-at-requires-2
-entry-at-requires-2 c κs = search needs
+entry-at-requires : tie.Need-entry-at-requires
+entry-at-requires c κs = search needs
 
 among-requires-2 : tie.Need-among-requires-2
 among-requires-2 c κs = search needs
 
 returns-6 : tie.Need-returns-6
-returns-6 c = two-letters _ _ _ (omega arith) (omega arith) _ _ (c .among2 .ensures) (omega arith) (omega arith) (c .before .entry-at2 .ensures)
+returns-6 c = two-letters _ _ _ (omega arith) (omega arith) _ _ (c .among2 .ensures) (omega arith) (omega arith) (c .before .entry-at .ensures)
 
 pub element-of-spec : {M : Type 1} → statement M
 element-of-spec =
@@ -58,15 +55,14 @@ element-of-spec =
     returns
     returns-2
     sub-letter
-    mul-entry-at
-    entry-at-requires
+    letter-at-requires
     among-requires
     returns-3
     returns-4
     returns-5
-    mul-entry-at-2
+    mul-entry-at
     sub-entry-at
     add-entry-at
-    entry-at-requires-2
+    entry-at-requires
     among-requires-2
     returns-6)
