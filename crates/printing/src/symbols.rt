@@ -11,6 +11,12 @@ ghost use Rattle.printing.specs.Spelling.{plainSym, lettersOf};
 use crate::put;
 use crate::put_number;
 
+// The letters of a symbol; the second is 0 where it has one letter.
+pub struct Letters {
+    pub first: u8,
+    pub second: u8,
+}
+
 // One less than an element: where its letters stand among the symbols.
 fn one_less(element: u32) -> usize
     ensures { λ r. ⌜ r ≡ element - 1 ⌝ }
@@ -21,8 +27,7 @@ fn one_less(element: u32) -> usize
     element as usize - 1
 }
 
-// A letter of an element, the first (0) or the second (1); 0 where there is none. "Symbols are those of elements 1 (H) to 103 (Lr)": two bytes an element. A byte string is
-// read where it stands; an array would be laid on the stack at each call.
+// A letter of an element, the first (0) or the second (1); 0 where there is none. "Symbols are those of elements 1 (H) to 103 (Lr)": two bytes an element.
 fn letter(element: u32, which: usize) -> u8
     requires { ⌜ which < 2 ⌝ }
     ensures { λ r. ⌜ r ≡ getD (symbolOf element) which 0 ⌝ }
@@ -39,6 +44,35 @@ MdNoLr";
         return letters[2 * place + which];
     }
     0
+}
+
+// Both letters of an element. Most atoms are H, C, N or O, which are not looked up: a table is laid on the stack where it is read.
+fn letters_of(element: u32) -> Letters
+    ensures { λ r. ⌜ (r .first ≡ getD (symbolOf element) 0 0) × (r .second ≡ getD (symbolOf element) 1 0) ⌝ }
+{
+    match element {
+        1 => Letters {
+            first: 72,
+            second: 0,
+        },
+        6 => Letters {
+            first: 67,
+            second: 0,
+        },
+        7 => Letters {
+            first: 78,
+            second: 0,
+        },
+        8 => Letters {
+            first: 79,
+            second: 0,
+        },
+        _ => {
+            let first = letter(element, 0);
+            let second = letter(element, 1);
+            Letters { first, second }
+        }
+    }
 }
 
 // One letter or two.
@@ -67,10 +101,9 @@ fn put_mass(buffer: &mut [u8], at: usize, mass: u32) -> usize
 fn put_plain(buffer: &mut [u8], at: usize, element: u32, mass: u32) -> usize
     ensures { λ r. ⌜ Laid (now (buffer .entry)) at (printSym (plainSym element mass)) (now (buffer .exit)) r ⌝ }
 {
-    let first = letter(element, 0);
-    let second = letter(element, 1);
+    let letters = letters_of(element);
     let behind = put_mass(buffer, at, mass);
-    put_letters(buffer, behind, first, second)
+    put_letters(buffer, behind, letters.first, letters.second)
 }
 
 // Hydrogen: "D and T for hydrogen 2 and 3".

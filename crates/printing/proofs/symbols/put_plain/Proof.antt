@@ -4,11 +4,8 @@ use borrow.Author.Needs.{needs}
 use Rattle.printing.proofs.symbols.put_plain.Statement.{statement}
 use Rattle.printing.proofs.symbols.put_plain.Tie as tie
 
-letter-requires : tie.Need-letter-requires
-letter-requires c κs = search needs
-
-letter-requires-2 : tie.Need-letter-requires-2
-letter-requires-2 c κs = search needs
+letters-of-requires : tie.Need-letters-of-requires
+letters-of-requires c κs = search needs
 
 put-mass-requires : tie.Need-put-mass-requires
 put-mass-requires c κs = search needs
@@ -20,15 +17,9 @@ same-length : tie.Need-same-length
 same-length c = search needs
 
 returns : tie.Need-returns
-returns c = plain-laid _ (c .before .before .before .before .before .before .before .before .before .before .before .args .mass) _ _ (c .before .before .before .before .before .before .before .before .before .letter .ensures) (c .before .before .before .before .before .before .before .before .letter2 .ensures) (c .before .before .before .before .before .before .put-mass .ensures) (c .before .before .put-letters .ensures)
+returns c = let s = c .before .before .before .before .before .before .before .before in plain-laid _ (s .before .before .args .mass) _ _ (s .letters-of .ensures .0) (s .letters-of .ensures .1) (c .before .before .before .before .before .before .put-mass .ensures) (c .before .before .put-letters .ensures)
 
 pub put-plain-spec : {M : Type 1} → statement M
 put-plain-spec =
     tie.close
-    (tie.spec
-    letter-requires
-    letter-requires-2
-    put-mass-requires
-    put-letters-requires
-    same-length
-    returns)
+    (tie.spec letters-of-requires put-mass-requires put-letters-requires same-length returns)
