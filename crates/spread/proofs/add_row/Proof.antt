@@ -11,7 +11,7 @@ all-listed-requires : tie.Need-all-listed-requires
 all-listed-requires c κs = search needs
 
 returns : tie.Need-returns
-returns c = (c .before .before .before .before .pre .0, stop-few 11, λ s v rs range code len is. shows-11 s v _ _ rs range _ (sym (c .before .all-listed .ensures) ∙ not-true _ (c .if1 .taken)))
+returns c = (c .before .before .before .before .pre .0, stop-few _, λ s v rs range code len is. shows-11 s v _ _ rs range _ (sym (c .before .all-listed .ensures) ∙ not-true _ (c .if1 .taken)))
 
 cast-claim : tie.Need-cast-claim
 cast-claim c = search needs
@@ -26,13 +26,13 @@ same-length : tie.Need-same-length
 same-length c = search needs
 
 returns-2 : tie.Need-returns-2
-returns-2 c = (c .before .before .before .claim .ensures .0, stop-few 13, λ s v rs range code len is. shows-13 s v _ _ rs range _ _ _ len (c .before .before .before .before .before .before .before .before .before .pre .2) is (c .before .before .before .before .before .before .before .before .before .pre .3) (sym (c .before .before .before .before .before .before .all-listed .ensures) ∙ not-false _ (c .before .before .before .before .before .if1 .left)) _ _ (not-true _ (c .if2 .taken)) (c .before .before .before .claim .ensures .1))
+returns-2 c = (c .before .before .before .claim .ensures .0, stop-few _, λ s v rs range code len is. shows-13 s v _ _ rs range _ _ _ len (c .before .before .before .before .before .before .before .before .before .pre .2) is (c .before .before .before .before .before .before .before .before .before .pre .3) (sym (c .before .before .before .before .before .before .all-listed .ensures) ∙ not-false _ (c .before .before .before .before .before .if1 .left)) _ _ (not-true _ (c .if2 .taken)) (c .before .before .before .claim .ensures .1))
 
 same-length-2 : tie.Need-same-length-2
 same-length-2 c = search needs
 
 returns-3 : tie.Need-returns-3
-returns-3 c = (c .before .before .before .before .claim .ensures .0, stop-few 14, λ s v rs range code len is. shows-14 s v _ _ rs range _ _ _ len (c .before .before .before .before .before .before .before .before .before .before .pre .2) is (c .before .before .before .before .before .before .before .before .before .before .pre .3) (sym (c .before .before .before .before .before .before .before .all-listed .ensures) ∙ not-false _ (c .before .before .before .before .before .before .if1 .left)) _ _ (not-false _ (c .before .if2 .left)) (c .before .before .before .before .claim .ensures .1) (leb-true _ _ (c .if3 .taken)))
+returns-3 c = (c .before .before .before .before .claim .ensures .0, stop-few _, λ s v rs range code len is. shows-14 s v _ _ rs range _ _ _ len (c .before .before .before .before .before .before .before .before .before .before .pre .2) is (c .before .before .before .before .before .before .before .before .before .before .pre .3) (sym (c .before .before .before .before .before .before .before .all-listed .ensures) ∙ not-false _ (c .before .before .before .before .before .before .if1 .left)) _ _ (not-false _ (c .before .if2 .left)) (c .before .before .before .before .claim .ensures .1) (leb-true _ _ (c .if3 .taken)))
 
 add-region : tie.Need-add-region
 add-region c = search needs

@@ -41,16 +41,16 @@ enum-told : tie.Need-enum-told
 enum-told c = search needs
 
 returns-5 : tie.Need-returns-5
-returns-5 c = (refl, λ long few atoms. (stop-few 9, λ rs len fits is. shows-wrong _ _ rs _ _ (c .before .before .before .before .before .next-field .ensures) (c .before .before .before .before .if4 .left) _ (c .before .before .value-of .ensures) _ (c .enum-told .given .1)))
+returns-5 c = (refl, λ long few atoms. (stop-few _, λ rs len fits is. shows-wrong _ _ rs _ _ (c .before .before .before .before .before .next-field .ensures) (c .before .before .before .before .if4 .left) _ (c .before .before .value-of .ensures) _ (c .enum-told .given .1)))
 
 all-numbers-requires : tie.Need-all-numbers-requires
 all-numbers-requires c κs = c .before .before .before .before .before .before .next-field .ensures .high (omega arith)
 
 returns-6 : tie.Need-returns-6
-returns-6 c = (refl, λ long few atoms. (stop-few 9, λ rs len fits is. shows-unnumbered _ _ rs _ _ (c .before .before .before .before .before .before .before .before .next-field .ensures) (c .before .before .before .before .before .before .before .if4 .left) _ (c .before .before .before .before .before .value-of .ensures) _ (sym (c .before .all-numbers .ensures) ∙ not-true _ (c .if5 .taken))))
+returns-6 c = (refl, λ long few atoms. (stop-few _, λ rs len fits is. shows-unnumbered _ _ rs _ _ (c .before .before .before .before .before .before .before .before .next-field .ensures) (c .before .before .before .before .before .before .before .if4 .left) _ (c .before .before .before .before .before .value-of .ensures) _ (sym (c .before .all-numbers .ensures) ∙ not-true _ (c .if5 .taken))))
 
 returns-7 : tie.Need-returns-7
-returns-7 c = (refl, λ long few atoms. (stop-few 10, λ rs len fits is. shows-beyond _ _ rs _ _ (c .before .before .before .before .before .before .before .before .before .next-field .ensures) (c .before .before .before .before .before .before .before .before .if4 .left) _ (c .before .before .before .before .before .before .value-of .ensures) _ _ (c .before .before .before .before .code .given .1) (c .if6 .taken) (sym (c .before .before .all-numbers .ensures) ∙ not-false _ (c .before .if5 .left))))
+returns-7 c = (refl, λ long few atoms. (stop-few _, λ rs len fits is. shows-beyond _ _ rs _ _ (c .before .before .before .before .before .before .before .before .before .next-field .ensures) (c .before .before .before .before .before .before .before .before .if4 .left) _ (c .before .before .before .before .before .before .value-of .ensures) _ _ (c .before .before .before .before .code .given .1) (c .if6 .taken) (sym (c .before .before .all-numbers .ensures) ∙ not-false _ (c .before .if5 .left))))
 
 add-row-requires : tie.Need-add-row-requires
 add-row-requires c κs = (search needs, c .before .before .before .before .before .before .before .before .before .before .next-field .ensures .high (omega arith), search needs, search needs)
