@@ -1,6 +1,5 @@
 -- What the writer's answer and the buffer behind it say: document 01, the writing part of "Refusal numbers" ("All four answer 0 bytes and leave the buffer alone as
 -- lent. Success answers the count; bytes beyond it stay."). Assumes nothing.
-use Prim.Native.Nat.{ℕ}
 use mathlib.Core.Path.{_≡_}
 use mathlib.Core.Bool.{true}
 use mathlib.Core.List.{List}
@@ -10,8 +9,6 @@ use lib.Dec.{ltb}
 use Rattle.format.specs.Bytes.{Bytes}
 use Rattle.format.specs.Table.{sound}
 use Rattle.format.specs.Writing.{WriteResult, unwritten, formOf, writtenAs}
-use Rattle.printing.specs.Printing.{after}
-use Rattle.form.specs.Forms.{Printable}
 use Rattle.writer.specs.declared.Answer.{Answer}
 use Rattle.writer.specs.declared.Answer.the-variants.{Written, Refused}
 
@@ -22,7 +19,3 @@ shown (Refused n) b = unwritten n b
 -- a sound table is written, or refused for its form's length
 abbrev pub SoundWritten : List ℤ → (texts buffer : Bytes) → Answer → (later : Bytes) → Type 0
 SoundWritten t b buffer r later = sound 103 t b ≡ true → shown r later ≡ writtenAs (ltb 32768 (length (formOf t b))) (ltb (length buffer) (length (formOf t b))) (formOf t b) buffer
-
--- how long the form is, no more than one beyond the longest
-abbrev pub Measured : List ℤ → Bytes → (n : ℕ) (keys counts : List ℕ) → (r : ℕ) → Type 0
-Measured t b n keys counts r = Printable t n keys counts → r ≡ after 0 (formOf t b)

@@ -1,12 +1,13 @@
 // Writing a table as the one written form: document 01, "The one written form" and the writing part of "Refusal numbers". A form is measured before the first byte
-// is laid, so that a refusal leaves the buffer alone.
+// is laid in the buffer, so that a refusal leaves the buffer alone.
 ghost use mathlib.Core.Path.{_≡_};
 ghost use Prim.Native.Nat.{_≤_};
 ghost use lib.ListN.{length};
 ghost use Rattle.format.specs.Writing.{writeResult};
-ghost use Rattle.writer.specs.Answers.{shown, SoundWritten, Measured};
+ghost use Rattle.writer.specs.Answers.{shown, SoundWritten};
 use form::put_form;
 use format::Table;
+use printing::put_text;
 use soundness::is_sound;
 use tally::gather;
 
@@ -16,22 +17,8 @@ pub enum Answer {
     Refused(u32),
 }
 
-// How many bytes the form has; one beyond the longest where it has more.
-fn measure(
-    table: &[i32],
-    bytes: &[u8],
-    keys: &[u32; 257],
-    counts: &[u32; 257],
-    entries: usize,
-) -> usize
-    requires { ⌜ (3856 ≤ length (now table)) × (entries ≤ 257) ⌝ }
-    ensures { λ r. ⌜ Measured (now (table .entry)) (now (bytes .entry)) entries (now (keys .entry)) (now (counts .entry)) r ⌝ }
-{
-    let mut spare = [0u8; 1];
-    put_form(&mut spare, table, bytes, keys, counts, entries)
-}
-
-// A sound table: "23, the form would pass 32,768 bytes; 22, the buffer is shorter"; else it is written.
+// A sound table: "23, the form would pass 32,768 bytes; 22, the buffer is shorter"; else it is written. The form is printed into a draft, which tells its length and,
+// for most blocks, holds all of it, so that it needs only be copied; a longer one is printed once more.
 fn write_sound(table: &[i32], bytes: &[u8], buffer: &mut [u8]) -> Answer
     requires { ⌜ 3856 ≤ length (now table) ⌝ }
     ensures { λ r. ⌜ SoundWritten (now (table .entry)) (now (bytes .entry)) (now (buffer .entry)) r (now (buffer .exit)) ⌝ }
@@ -39,12 +26,17 @@ fn write_sound(table: &[i32], bytes: &[u8], buffer: &mut [u8]) -> Answer
     let mut keys = [0u32; 257];
     let mut counts = [0u32; 257];
     let entries = gather(table, &mut keys, &mut counts);
-    let size = measure(table, bytes, &keys, &counts, entries);
+    let mut draft = [0u8; 4096];
+    let size = put_form(&mut draft, table, bytes, &keys, &counts, entries);
     if Table::BLOCK < size {
         return Answer::Refused(23);
     }
     if buffer.len() < size {
         return Answer::Refused(22);
+    }
+    if size <= 4096 {
+        put_text(buffer, 0, &draft[0..size]);
+        return Answer::Written(size);
     }
     put_form(buffer, table, bytes, &keys, &counts, entries);
     Answer::Written(size)
