@@ -8,7 +8,7 @@ ghost use Rattle.form.specs.Entries.{EntriesLaid, FormulaLaid};
 use printing::put;
 use printing::put_number;
 use printing::put_text;
-use printing::symbols::put_symbol;
+use spelling::put_symbol;
 use tally::elements::element_of;
 
 // An entry by its key and count: "counts of 1 left out".

@@ -17,7 +17,7 @@ use printing::put;
 use printing::put_behind;
 use printing::put_number;
 use printing::put_unless_zero;
-use printing::symbols::put_symbol;
+use spelling::put_symbol;
 
 // A count of the table, cut to what its list holds.
 pub fn count_at(table: &[i32], at: usize, most: usize) -> usize

@@ -1,3 +1,2 @@
 -- What this crate's functions print, in the terms of format/specs, file by file. Assumes nothing.
 pub mod Printing
-pub mod Spelling

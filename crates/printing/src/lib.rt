@@ -8,8 +8,6 @@ ghost use Rattle.format.specs.Writing.{digitsIn, digits, unlessZero};
 ghost use Rattle.printing.specs.Printing.{nextPlace, over, Laid, spaced};
 use format::Table;
 
-pub mod symbols; // symbols.rt: an element and its mass
-
 // A byte at its place, if the buffer has that place.
 fn ink(buffer: &mut [u8], at: usize, byte: u8)
     ensures { λ _. ⌜ now (buffer .exit) ≡ set (now (buffer .entry)) at byte ⌝ }

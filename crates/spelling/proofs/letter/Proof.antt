@@ -1,8 +1,8 @@
--- `printing::symbols::letter` meets its contract. Assumes nothing.
-use Rattle.printing.proofs.LetterTable.{table, letter-in, letter-out}
+-- `spelling::letter` meets its contract. Assumes nothing.
+use Rattle.spelling.proofs.LetterTable.{table, letter-in, letter-out}
 use borrow.Author.Needs.{needs}
-use Rattle.printing.proofs.symbols.letter.Statement.{statement}
-use Rattle.printing.proofs.symbols.letter.Tie as tie
+use Rattle.spelling.proofs.letter.Statement.{statement}
+use Rattle.spelling.proofs.letter.Tie as tie
 
 one-less-requires : tie.Need-one-less-requires
 one-less-requires c κs = search needs

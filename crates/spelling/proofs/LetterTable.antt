@@ -48,22 +48,6 @@ pub letter-out : (e i k : ℕ) → i ≡ e - 1 → 103 ≤ i → 0 ≡ getD (sym
 letter-out e i k q h =
     sym (ap (λ l. getD (getD l (e - 1) []) k 0) (sym (append-nil symbols)) ∙ ap (λ w. getD w k 0) (getD-past [] (e - 1) symbols [] (rw (elements-numbered .0, ← q) h)))
 
--- the commonest elements, which are not looked up
-abbrev pub Spelt : (e f s : ℕ) → Type 0
-Spelt e f s = (f ≡ getD (symbolOf e) 0 0) × (s ≡ getD (symbolOf e) 1 0)
-
-pub spelt-hydrogen : (e : ℕ) → e ≡ 1 → Spelt e 72 0
-unfolding computing
-spelt-hydrogen e q = rw q (refl, refl)
-
-pub spelt-carbon : (e : ℕ) → e ≡ 6 → Spelt e 67 0
-unfolding computing
-spelt-carbon e q = rw q (refl, refl)
-
-pub spelt-nitrogen : (e : ℕ) → e ≡ 7 → Spelt e 78 0
-unfolding computing
-spelt-nitrogen e q = rw q (refl, refl)
-
-pub spelt-oxygen : (e : ℕ) → e ≡ 8 → Spelt e 79 0
-unfolding computing
-spelt-oxygen e q = rw q (refl, refl)
+-- the commonest elements, which are not looked up: their letters are computed where they are written
+pub spelt-at : (e k : ℕ) → e ≡ k → (getD (symbolOf k) 0 0 ≡ getD (symbolOf e) 0 0) × (getD (symbolOf k) 1 0 ≡ getD (symbolOf e) 1 0)
+spelt-at e k q = (ap (λ n. getD (symbolOf n) 0 0) (sym q), ap (λ n. getD (symbolOf n) 1 0) (sym q))

@@ -6,15 +6,15 @@ ghost use lib.Dec.{eqb};
 ghost use lib.ListN.{getD};
 ghost use Rattle.format.specs.Structure.{isotopeOf};
 ghost use Rattle.format.specs.Writing.{symbolOf, spelt, printMass, printSym};
 ghost use Rattle.printing.specs.Printing.{Laid};
-ghost use Rattle.printing.specs.Spelling.{plainSym, lettersOf};
-use crate::put;
-use crate::put_number;
+ghost use Rattle.spelling.specs.Spelling.{plainSym, lettersOf};
+use printing::put;
+use printing::put_number;
 
 // The letters of a symbol; the second is 0 where it has one letter.
-pub struct Letters {
-    pub first: u8,
-    pub second: u8,
+struct Letters {
+    first: u8,
+    second: u8,
 }
 
 // One less than an element: where its letters stand among the symbols.

@@ -1,9 +1,9 @@
--- `printing::symbols::put_hydrogen` meets its contract. Assumes nothing.
+-- `spelling::put_hydrogen` meets its contract. Assumes nothing.
 use Rattle.printing.proofs.PrintLaws.{laid-as}
-use Rattle.printing.proofs.SpellLaws.{deuterium, tritium, hydrogen}
+use Rattle.spelling.proofs.SpellLaws.{deuterium, tritium, hydrogen}
 use borrow.Author.Needs.{needs}
-use Rattle.printing.proofs.symbols.put_hydrogen.Statement.{statement}
-use Rattle.printing.proofs.symbols.put_hydrogen.Tie as tie
+use Rattle.spelling.proofs.put_hydrogen.Statement.{statement}
+use Rattle.spelling.proofs.put_hydrogen.Tie as tie
 
 put-requires : tie.Need-put-requires
 put-requires c κs = search needs

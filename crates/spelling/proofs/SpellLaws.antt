@@ -9,9 +9,9 @@ use lib.ListN.{getD}
 use Rattle.format.specs.Bytes.{Bytes}
 use Rattle.format.specs.Structure.{isotopeOf}
 use Rattle.format.specs.Writing.{digits, symbolOf, speltBy, spelt, printMass, printSym}
 use Rattle.printing.specs.Printing.{Laid}
-use Rattle.printing.specs.Spelling.{plainSym, lettersOf}
+use Rattle.spelling.specs.Spelling.{plainSym, lettersOf}
 use Rattle.printing.proofs.PrintLaws.{laid-then, laid-as}
 
 -- ONE LETTER OR TWO
 pub letter-one : (a b : ℕ) → b ≡ 0 → a ∷ [] ≡ lettersOf a b

@@ -1,8 +1,8 @@
--- `printing::symbols::put_plain` meets its contract. Assumes nothing.
-use Rattle.printing.proofs.SpellLaws.{plain-laid}
+-- `spelling::put_plain` meets its contract. Assumes nothing.
+use Rattle.spelling.proofs.SpellLaws.{plain-laid}
 use borrow.Author.Needs.{needs}
-use Rattle.printing.proofs.symbols.put_plain.Statement.{statement}
-use Rattle.printing.proofs.symbols.put_plain.Tie as tie
+use Rattle.spelling.proofs.put_plain.Statement.{statement}
+use Rattle.spelling.proofs.put_plain.Tie as tie
 
 letters-of-requires : tie.Need-letters-of-requires
 letters-of-requires c κs = search needs

@@ -1,9 +1,9 @@
--- `printing::symbols::put_letters` meets its contract. Assumes nothing.
+-- `spelling::put_letters` meets its contract. Assumes nothing.
 use Rattle.printing.proofs.PrintLaws.{laid-then, laid-as}
-use Rattle.printing.proofs.SpellLaws.{letter-one, letter-two}
+use Rattle.spelling.proofs.SpellLaws.{letter-one, letter-two}
 use borrow.Author.Needs.{needs}
-use Rattle.printing.proofs.symbols.put_letters.Statement.{statement}
-use Rattle.printing.proofs.symbols.put_letters.Tie as tie
+use Rattle.spelling.proofs.put_letters.Statement.{statement}
+use Rattle.spelling.proofs.put_letters.Tie as tie
 
 put-requires : tie.Need-put-requires
 put-requires c κs = search needs

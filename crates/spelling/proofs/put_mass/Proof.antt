@@ -1,9 +1,9 @@
--- `printing::symbols::put_mass` meets its contract. Assumes nothing.
+-- `spelling::put_mass` meets its contract. Assumes nothing.
 use Rattle.printing.proofs.PrintLaws.{laid-none, laid-then, laid-as}
-use Rattle.printing.proofs.SpellLaws.{mass-none, mass-some}
+use Rattle.spelling.proofs.SpellLaws.{mass-none, mass-some}
 use borrow.Author.Needs.{needs}
-use Rattle.printing.proofs.symbols.put_mass.Statement.{statement}
-use Rattle.printing.proofs.symbols.put_mass.Tie as tie
+use Rattle.spelling.proofs.put_mass.Statement.{statement}
+use Rattle.spelling.proofs.put_mass.Tie as tie
 
 returns : tie.Need-returns
 returns c = laid-as (mass-none _ (c .if1 .taken)) laid-none

@@ -1,9 +1,9 @@
--- `printing::symbols::put_symbol` meets its contract. Assumes nothing.
+-- `spelling::put_symbol` meets its contract. Assumes nothing.
 use Rattle.printing.proofs.PrintLaws.{laid-as}
-use Rattle.printing.proofs.SpellLaws.{is-hydrogen, other}
+use Rattle.spelling.proofs.SpellLaws.{is-hydrogen, other}
 use borrow.Author.Needs.{needs}
-use Rattle.printing.proofs.symbols.put_symbol.Statement.{statement}
-use Rattle.printing.proofs.symbols.put_symbol.Tie as tie
+use Rattle.spelling.proofs.put_symbol.Statement.{statement}
+use Rattle.spelling.proofs.put_symbol.Tie as tie
 
 put-hydrogen-requires : tie.Need-put-hydrogen-requires
 put-hydrogen-requires c κs = search needs
