@@ -1,7 +1,4 @@
 -- The laws of this crate, file by file. Assumes nothing.
-pub mod LineLaws
-pub mod PlaceLaws
-pub mod RowLaws
 pub mod ListingLaws
 pub mod RecordLaws
 pub mod EntryLaws

@@ -1,6 +1,6 @@
 -- The atoms and the rows of a list printed one by one are the list's text: document 01, "The one written form" ("empty optional ones left out"). Assumes nothing.
 use Prim.Native.Nat.{ℕ, suc, _+_, _*_, _≤_, _<_}
-use mathlib.Core.Path.{_≡_, refl, sym, ap, ap₂, _∙_, subst}
+use mathlib.Core.Path.{_≡_, refl, sym, ap, ap₂, _∙_}
 use mathlib.Core.Bool.{true}
 use mathlib.Core.List.{List, [], _∷_, _++_, map, append-nil}
 use native.Mathlib.Numerals.{add-one}
@@ -20,11 +20,11 @@ use Rattle.format.specs.Structure.{isotopeOf, Atom, rowsOf, lists}
 use Rattle.format.specs.Table.{cell, atomAt, atomRecords, decode}
 use Rattle.format.specs.Writing.{line, rowWords, atomWords, printAtoms, listLabel, printRecord, printRows}
 use Rattle.printing.specs.Printing.{Laid, Rests}
-use Rattle.form.specs.Lines.{atomNo, atomLine, rowNo, RowLaid}
-use Rattle.form.specs.Listing.{listOf, groupsFit, GroupsFit, rowsText, RowsLaid, ListLaid}
-use Rattle.form.specs.declared.listing.Listed.{Listed}
+use Rattle.rowform.specs.declared.Listed.{Listed}
+use Rattle.rowform.specs.Lines.{listOf, atomNo, atomLine, rowNo, RowLaid}
+use Rattle.form.specs.Listing.{groupsFit, GroupsFit, rowsText, RowsLaid, ListLaid}
 use Rattle.printing.proofs.PrintLaws.{laid-none, laid-then, laid-as, rest-on, rest-none}
-use Rattle.form.proofs.PlaceLaws.{record-cell}
+use Rattle.rowform.proofs.PlaceLaws.{record-cell}
 
 -- THE ATOMS
 atom-is : (t : List ℤ) (i : ℕ) → i < length (atomRecords t) → atomAt (getD (atomRecords t) i []) ≡ atomNo t i
@@ -47,9 +47,6 @@ atoms-end t i h = ap (printAtoms (i + 1)) (sym (map-drop atomAt i (atomRecords t
 -- WHICH LIST
 pub label-as : {b b′ : Bytes} {at r : ℕ} (x y : Listed) → x ≡ y → Laid b at (printRecord (listLabel (listOf y)) []) b′ r → Laid b at (printRecord (listLabel (listOf x)) []) b′ r
 label-as x y e l = laid-as (sym (ap (λ z. printRecord (listLabel (listOf z)) []) e)) l
-
-pub row-as : {b b′ : Bytes} {at r : ℕ} (t : List ℤ) (i : ℕ) (x y : Listed) → x ≡ y → RowLaid (listOf y) t i b at b′ r → RowLaid (listOf x) t i b at b′ r
-row-as {b} {b′} {at} {r} t i x y e l = subst (λ z. RowLaid (listOf z) t i b at b′ r) (sym e) l
 
 pub count-as : (t : List ℤ) (n : ℕ) (x y : Listed) → x ≡ y → n ≡ length (rowsOf (listOf y) (decode t)) → n ≡ length (rowsOf (listOf x) (decode t))
 count-as t n x y e p = p ∙ sym (ap (λ z. length (rowsOf (listOf z) (decode t))) e)

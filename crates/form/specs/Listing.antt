@@ -7,21 +7,12 @@ use lib.IntN.{ℤ}
 use lib.Dec.{ltb}
 use Rattle.lists.specs.Lists.{all, flat}
 use Rattle.format.specs.Bytes.{Bytes}
-use Rattle.format.specs.Labels.{ListOf, Bonds, Charges, Radicals, Centres, Pairs}
+use Rattle.format.specs.Labels.{ListOf}
 use Rattle.format.specs.Rows.{Row}
 use Rattle.format.specs.Structure.{rowsOf}
 use Rattle.format.specs.Table.{decode}
 use Rattle.format.specs.Writing.{line, rowWords, printRows}
 use Rattle.printing.specs.Printing.{Laid}
-use Rattle.form.specs.declared.listing.Listed.{Listed}
-use Rattle.form.specs.declared.listing.Listed.the-variants.{Bond, Charge, Radical, Centre, Pair}
-
-abbrev pub listOf : Listed → ListOf
-listOf Bond = Bonds
-listOf Charge = Charges
-listOf Radical = Radicals
-listOf Centre = Centres
-listOf Pair = Pairs
 
 -- the groups of rows are bytes
 abbrev pub groupsFit : List Row → Bool

@@ -1,7 +1,8 @@
 // The one written form of a table: document 01, "The one written form" ("Records in this order: TITLE, JCAMP-CS, ORIGIN, OWNER, BLOCK_ID, MOLFORM, ATOMLIST,
 // BONDLIST, CHARGE, RADICAL, STEREOCENTER, STEREOPAIR, END").
-ghost use Prim.Native.Nat.{_≤_};
+ghost use Prim.Native.Nat.{_≤_, _<_};
 ghost use lib.ListN.{length};
+ghost use Rattle.printing.specs.Printing.{Untouched};
 ghost use Rattle.form.specs.Forms.{FormLaid};
 use crate::formula::put_formula;
 use crate::listing::put_atoms;
@@ -15,7 +16,6 @@ use printing::put_text;
 mod formula; // formula.rt: the record of the formula
 mod listing; // listing.rt: the atoms and the rows of every list
 mod records; // records.rt: texts and the block's number
-mod rows; // rows.rt: one line of each list
 
 // Every record, from the buffer's front on.
 fn put_records(
@@ -64,7 +64,7 @@ pub fn put_form(
     counts: &[u32; 257],
     entries: usize,
 ) -> usize
-    ensures { λ r. ⌜ ((3856 ≤ length (now (table .entry))) × (entries ≤ 257) → FormLaid (now (table .entry)) (now (bytes .entry)) entries (now (keys .entry)) (now (counts .entry)) (now (buffer .entry)) (now (buffer .exit)) r) ⌝ }
+    ensures { λ r. ⌜ ((3856 ≤ length (now (table .entry))) × (entries ≤ 257) → FormLaid (now (table .entry)) (now (bytes .entry)) entries (now (keys .entry)) (now (counts .entry)) (now (buffer .entry)) (now (buffer .exit)) r) × (length (now (table .entry)) < 3856 → Untouched (now (buffer .entry)) 0 (now (buffer .exit)) r) × (257 < entries → Untouched (now (buffer .entry)) 0 (now (buffer .exit)) r) ⌝ }
 {
     if table.len() < Table::SIZE {
         return 0;

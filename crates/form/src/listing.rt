@@ -8,26 +8,14 @@ ghost use Rattle.format.specs.Structure.{rowsOf, lists};
 ghost use Rattle.format.specs.Table.{decode};
 ghost use Rattle.format.specs.Writing.{listLabel, printRecord, printAtoms, printRows};
 ghost use Rattle.printing.specs.Printing.{Laid};
-ghost use Rattle.form.specs.Lines.{RowLaid};
-ghost use Rattle.form.specs.Listing.{listOf, RowsLaid, ListLaid, GroupsFit};
-use crate::rows::count_at;
-use crate::rows::put_atom;
-use crate::rows::put_bond;
-use crate::rows::put_centre;
-use crate::rows::put_charge;
-use crate::rows::put_pair;
-use crate::rows::put_radical;
+ghost use Rattle.rowform.specs.Lines.{listOf};
+ghost use Rattle.form.specs.Listing.{RowsLaid, ListLaid, GroupsFit};
 use format::Table;
 use printing::put_text;
-
-// The lists that have rows.
-pub enum Listed {
-    Bond,
-    Charge,
-    Radical,
-    Centre,
-    Pair,
-}
+use rowform::Listed;
+use rowform::count_at;
+use rowform::put_atom;
+use rowform::put_row;
 
 // The atoms, one line each.
 pub fn put_atoms(buffer: &mut [u8], at: usize, table: &[i32]) -> usize
@@ -67,20 +55,6 @@ fn put_label(list: Listed, buffer: &mut [u8], at: usize) -> usize
         Listed::Radical => put_text(buffer, at, b"##RADICAL=\n"),
         Listed::Centre => put_text(buffer, at, b"##STEREOCENTER=\n"),
         Listed::Pair => put_text(buffer, at, b"##STEREOPAIR=\n"),
-    }
-}
-
-// A row of a list.
-fn put_row(list: Listed, buffer: &mut [u8], at: usize, table: &[i32], i: usize) -> usize
-    requires { ⌜ (i < 512) × (3856 ≤ length (now table)) ⌝ }
-    ensures { λ r. ⌜ RowLaid (listOf list) (now (table .entry)) i (now (buffer .entry)) at (now (buffer .exit)) r ⌝ }
-{
-    match list {
-        Listed::Bond => put_bond(buffer, at, table, i),
-        Listed::Charge => put_charge(buffer, at, table, i),
-        Listed::Radical => put_radical(buffer, at, table, i),
-        Listed::Centre => put_centre(buffer, at, table, i),
-        Listed::Pair => put_pair(buffer, at, table, i),
     }
 }
 

@@ -13,7 +13,7 @@ use lib.Seq.{drop-cons, set-out, sets, sets-eq}
 use borrow.Author.Tests.{ltb-true, ltb-false, lt-ltb, le-ltb}
 use Rattle.lists.proofs.PartLaws.{flat-nil, flat-cons, flat-append}
 use Rattle.format.specs.Bytes.{Bytes}
-use Rattle.printing.specs.Printing.{nextPlace, after, over, Laid, Rests, spaced}
+use Rattle.printing.specs.Printing.{nextPlace, after, over, Laid, Untouched, Rests, spaced}
 
 -- ONE BYTE
 pub next-in : (at : ℕ) → at < 32769 → at + 1 ≡ nextPlace at
@@ -42,6 +42,9 @@ over-append b at (c ∷ x) y = over-append (set b at c) (nextPlace at) x y
 pub laid-none : {b : Bytes} {at : ℕ} → Laid b at [] b at
 unfolding after over
 laid-none = record { place = refl; laid = refl }
+
+pub untouched : {b : Bytes} {at : ℕ} → Untouched b at b at
+untouched = record { place = refl; same = refl }
 
 pub laid-then : {b b₁ b₂ x y : Bytes} {at r₁ r₂ : ℕ} → Laid b at x b₁ r₁ → Laid b₁ r₁ y b₂ r₂ → Laid b at (x ++ y) b₂ r₂
 laid-then {b} {b₁} {b₂} {x} {y} {at} {r₁} {r₂} p q = record {

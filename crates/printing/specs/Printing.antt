@@ -27,6 +27,11 @@ pub record Laid (buffer : Bytes) (at : ℕ) (form later : Bytes) (r : ℕ) : Typ
   pub place : r ≡ after at form
   pub laid : later ≡ over buffer at form
 
+-- what a printer leaves that prints nothing: the buffer as it was, and the place that was given
+pub record Untouched (buffer : Bytes) (at : ℕ) (later : Bytes) (r : ℕ) : Type 0 where
+  pub place : r ≡ at
+  pub same : later ≡ buffer
+
 -- what is still to be printed: with it the whole is there
 pub record Rests (buffer : Bytes) (at : ℕ) (whole now : Bytes) (here : ℕ) (rest : Bytes) : Type 0 where
   pub place : after at whole ≡ after here rest

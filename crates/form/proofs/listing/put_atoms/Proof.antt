@@ -8,7 +8,7 @@ use Rattle.format.specs.Table.{decode}
 use Rattle.format.specs.Writing.{printAtoms}
 use Rattle.printing.specs.Printing.{Rests}
 use Rattle.printing.proofs.PrintLaws.{rest-all, rest-on, rest-none}
-use Rattle.form.proofs.PlaceLaws.{records-many}
+use Rattle.rowform.proofs.PlaceLaws.{records-many}
 use Rattle.form.proofs.ListingLaws.{atoms-on, atoms-end}
 use Rattle.form.proofs.listing.put_atoms.Statement.{statement}
 use Rattle.form.proofs.listing.put_atoms.Tie as tie
@@ -26,7 +26,7 @@ loop-holds : tie.Need-loop-holds Inv-loop μ-loop
 loop-holds c = (omega arith, refl, rest-all)
 
 put-atom-requires : tie.Need-put-atom-requires Inv-loop μ-loop
-put-atom-requires c κs = omega arith
+put-atom-requires c κs = search needs
 
 add-i : tie.Need-add-i Inv-loop μ-loop
 add-i c = omega arith
@@ -35,7 +35,7 @@ loop-less : tie.Need-loop-less Inv-loop μ-loop
 loop-less c = omega arith
 
 loop-again : tie.Need-loop-again Inv-loop μ-loop
-loop-again c = (omega arith, omega arith, rest-on (atoms-on (c .before .before .before .before .before .before .before .before .args .table .now) _ (omega (arith, c .before .before .before .before .before .before .count-at .ensures .0, records-many (c .before .before .before .before .before .before .before .before .args .table .now)))) (c .before .before .put-atom .ensures) (c .before .before .before .before .before .loop .inv .2))
+loop-again c = (omega arith, omega arith, rest-on (atoms-on (c .before .before .before .before .before .before .before .before .args .table .now) _ (omega (arith, c .before .before .before .before .before .before .count-at .ensures .0, records-many (c .before .before .before .before .before .before .before .before .args .table .now)))) (c .before .before .put-atom .ensures .0 (omega arith)) (c .before .before .before .before .before .loop .inv .2))
 
 same-length : tie.Need-same-length Inv-loop μ-loop
 same-length c = c .before .loop .inv .1

@@ -1,7 +1,7 @@
 -- `form::listing::put_label` meets its contract. Assumes nothing.
 use Rattle.format.specs.Bytes.{bytes}
 use Rattle.format.specs.Writing.{valued, printRecord}
-use Rattle.form.specs.declared.listing.Listed.the-variants.{Bond, Charge, Radical, Centre, Pair}
+use Rattle.rowform.specs.declared.Listed.the-variants.{Bond, Charge, Radical, Centre, Pair}
 use Rattle.form.proofs.ListingLaws.{label-as}
 use borrow.Author.Needs.{needs}
 use Rattle.form.proofs.listing.put_label.Statement.{statement}

@@ -1,5 +1,5 @@
 -- `form::listing::put_list` meets its contract. Assumes nothing.
-use Rattle.form.specs.Listing.{listOf}
+use Rattle.rowform.specs.Lines.{listOf}
 use Rattle.form.proofs.ListingLaws.{list-none, list-some}
 use borrow.Author.Needs.{needs}
 use Rattle.form.proofs.listing.put_list.Statement.{statement}

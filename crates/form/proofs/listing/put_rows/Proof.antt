@@ -7,9 +7,11 @@ use lib.ListN.{length, drop}
 use Rattle.format.specs.Structure.{rowsOf}
 use Rattle.format.specs.Table.{decode}
 use Rattle.printing.specs.Printing.{Rests}
-use Rattle.form.specs.Listing.{listOf, groupsFit, rowsText}
+use Rattle.rowform.specs.Lines.{listOf}
+use Rattle.form.specs.Listing.{groupsFit, rowsText}
 use Rattle.printing.proofs.PrintLaws.{rest-all}
 use Rattle.form.proofs.ListingLaws.{rows-on, rows-end}
+use borrow.Author.Needs.{needs}
 use Rattle.form.proofs.listing.put_rows.Statement.{statement}
 use Rattle.form.proofs.listing.put_rows.Tie as tie
 
@@ -23,7 +25,7 @@ loop-holds : tie.Need-loop-holds Inv-loop μ-loop
 loop-holds c = (omega arith, refl, λ fit. rest-all)
 
 put-row-requires : tie.Need-put-row-requires Inv-loop μ-loop
-put-row-requires c κs = (omega arith, c .before .before .before .before .pre .2)
+put-row-requires c κs = search needs
 
 add-i : tie.Need-add-i Inv-loop μ-loop
 add-i c = omega arith
@@ -32,7 +34,7 @@ loop-less : tie.Need-loop-less Inv-loop μ-loop
 loop-less c = omega arith
 
 loop-again : tie.Need-loop-again Inv-loop μ-loop
-loop-again c = (omega arith, omega arith, rows-on (listOf (c .before .before .before .before .before .before .before .args .list)) (c .before .before .before .before .before .before .before .args .table .now) (c .before .before .before .before .before .loop .i) (omega (arith, c .before .before .before .before .before .before .before .pre .0)) (c .before .before .put-row .ensures) (c .before .before .before .before .before .loop .inv .2))
+loop-again c = (omega arith, omega arith, rows-on (listOf (c .before .before .before .before .before .before .before .args .list)) (c .before .before .before .before .before .before .before .args .table .now) (c .before .before .before .before .before .loop .i) (omega (arith, c .before .before .before .before .before .before .before .pre .0)) (c .before .before .put-row .ensures .0 (omega arith, c .before .before .before .before .before .before .before .pre .2)) (c .before .before .before .before .before .loop .inv .2))
 
 same-length : tie.Need-same-length Inv-loop μ-loop
 same-length c = c .before .loop .inv .1

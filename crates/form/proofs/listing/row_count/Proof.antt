@@ -1,8 +1,8 @@
 -- `form::listing::row_count` meets its contract. Assumes nothing.
 use native.Mathlib.Omega.{arith}
 use mathlib.Core.Path.{sym, _∙_}
-use Rattle.form.specs.declared.listing.Listed.the-variants.{Bond, Charge, Radical, Centre, Pair}
-use Rattle.form.proofs.PlaceLaws.{bonds-many, charges-many, radicals-many, centres-many, pairs-many}
+use Rattle.rowform.specs.declared.Listed.the-variants.{Bond, Charge, Radical, Centre, Pair}
+use Rattle.rowform.proofs.PlaceLaws.{bonds-many, charges-many, radicals-many, centres-many, pairs-many}
 use Rattle.form.proofs.ListingLaws.{count-as}
 use borrow.Author.Needs.{needs}
 use Rattle.form.proofs.listing.row_count.Statement.{statement}

@@ -1,0 +1,2 @@
+-- What this crate's functions print, in the terms of format/specs. Assumes nothing.
+pub mod Lines
