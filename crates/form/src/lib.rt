@@ -55,7 +55,7 @@ fn put_records(
     put_text(buffer, lists, b"##END=\n")
 }
 
-// The same for any caller: a table that is too short, or more entries than the lists hold, print nothing.
+// The same for any caller: a table that is too short, or more entries than the lists hold, print nothing: the buffer stays, and 0 is answered.
 pub fn put_form(
     buffer: &mut [u8],
     table: &[i32],

@@ -1,7 +1,7 @@
 // The atoms and the rows of every list: document 01, "The one written form". A list without rows is left out: "empty optional ones left out".
 ghost use mathlib.Core.Path.{_≡_};
 ghost use mathlib.Core.List.{[]};
-ghost use Prim.Native.Nat.{_≤_, _<_};
+ghost use Prim.Native.Nat.{_≤_};
 ghost use lib.ListN.{length};
 ghost use Rattle.lists.specs.Lists.{flat};
 ghost use Rattle.format.specs.Structure.{rowsOf, lists};

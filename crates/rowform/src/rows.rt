@@ -1,7 +1,7 @@
 // A row of each list: document 01, "The one written form" ("One line feed a line, one space between fields"). A number of the table is read where it stands.
 ghost use mathlib.Core.Path.{_≡_};
 ghost use mathlib.Core.List.{[], _∷_, _++_, map};
-ghost use Prim.Native.Nat.{_≤_, _<_, _+_};
+ghost use Prim.Native.Nat.{_≤_, _<_};
 ghost use lib.Dec.{eqb};
 ghost use lib.ListN.{length, getD};
 ghost use lib.IntN.{pos};
