@@ -1,6 +1,6 @@
 -- How the code's tests make up the definitions': a test that fails ends a row of tests, one that passes hands on to the next; and the turns of the loops over numbers and
 -- over records. Assumes nothing.
-use Prim.Native.Nat.{ℕ, suc, _+_, _*_, _≤_, _<_, _^_}
+use Prim.Native.Nat.{ℕ, zero, suc, _+_, _*_, _≤_, _<_, _^_}
 use mathlib.Core.Path.{_≡_, refl, sym, ap, _∙_}
 use mathlib.Core.Bool.{Bool, true, false, not, _&&_, _||_, and-true, and-assoc}
 use mathlib.Core.List.{List, _∷_}
@@ -10,13 +10,14 @@ use native.Mathlib.Nat.{add-zero, mul-le-mul-left}
 use lib.ListN.{length, getD, take, drop, drop-of-length-le}
 use lib.Seq.{drop-cons, drop-drop, getD-drop}
 use lib.IntN.{ℤ, pos, natAbs}
-use lib.Dec.{leb, ltb}
+use lib.Bits.{bitOr, or-add-and, and-le-r}
+use lib.Dec.{eqb, leb, ltb}
 use lib.Signed.{mag}
 use mir.Facts.{toZ-ofZ, toZ-pos}
 use mir.Syntax.{w32}
 use mir.Val.{toZ, ofZ}
 use borrow.Author.Needs.{sfits-of}
-use borrow.Author.Tests.{lt-ltb, le-ltb, le-leb}
+use borrow.Author.Tests.{eqb-true, eqb-false, ne-eqb, lt-ltb, le-ltb, le-leb}
 use Rattle.lists.specs.Lists.{all, rowsFrom}
 use Rattle.lists.specs.Order.{ascends}
 use Rattle.lists.proofs.Bools.{torn, never, and-right-false}
@@ -151,6 +152,24 @@ pub records-is : (t : List ℤ) (base members low high : ℕ) (grouped : Bool) (
 unfolding recordsFine
 records-is t base members low high grouped w n rows = refl
 
+-- A SIGNED NUMBER OF 32 BITS is 0 if its bits are; the bits of two laid over each other are 0 if those of both are
+bits-zero : (z : ℤ) → mag z < 2 ^ 31 → ofZ w32 z ≡ 0 → ranging 0 0 z ≡ true
+bits-zero z b e = ap (ranging 0 0) (sym (toZ-ofZ (sfits-of b)) ∙ ap (toZ w32) e ∙ toZ-pos w32 (omega arith)) ∙ ranging-pos 0 0 0 (omega arith) (omega arith)
+
+bits-some : (z : ℤ) → (ofZ w32 z ≡ 0 → ⊥) → ranging 0 0 z ≡ false
+bits-some z h = never (ranging 0 0 z) (λ e. h (ap (ofZ w32) (zero-is z e)))
+
+bits-are : (z : ℤ) → mag z < 2 ^ 31 → eqb (ofZ w32 z) 0 ≡ ranging 0 0 z
+bits-are z b = go (eqb (ofZ w32 z) 0) refl
+  where
+    go : (t : Bool) → eqb (ofZ w32 z) 0 ≡ t → t ≡ ranging 0 0 z
+    go true e = sym (bits-zero z b (eqb-true (ofZ w32 z) 0 e))
+    go false e = sym (bits-some z (eqb-false (ofZ w32 z) 0 e))
+
+or-zero : (a b : ℕ) → eqb (bitOr a b) 0 ≡ (eqb a 0 && eqb b 0)
+or-zero zero b = refl
+or-zero (suc a) b = ne-eqb (bitOr (suc a) b) 0 (λ e. omega (arith, or-add-and (suc a) b, and-le-r (suc a) b, e)) ∙ rw (ne-eqb (suc a) 0 (λ e. omega arith))
+
 -- THE LOOPS over numbers
 fails : (r : Bool) → not r ≡ true → r ≡ false
 fails true h = torn false h refl
@@ -171,30 +190,19 @@ module _ (s : List ℤ) (i : ℕ) where
     pub numbers-end : length s ≤ i → all p (drop i s) ≡ true
     numbers-end h = all-end p s i h
 
-  -- a signed number of 32 bits is 0 if its bits are
-  bits-zero : (z : ℤ) → mag z < 2 ^ 31 → ofZ w32 z ≡ 0 → ranging 0 0 z ≡ true
-  bits-zero z b e = ap (ranging 0 0) (sym (toZ-ofZ (sfits-of b)) ∙ ap (toZ w32) e ∙ toZ-pos w32 (omega arith)) ∙ ranging-pos 0 0 0 (omega arith) (omega arith)
-
-  bits-some : (z : ℤ) → (ofZ w32 z ≡ 0 → ⊥) → ranging 0 0 z ≡ false
-  bits-some z h = never (ranging 0 0 z) (λ e. h (ap (ofZ w32) (zero-is z e)))
-
   pub unused-whole : unused s ≡ all (ranging 0 0) s
   unfolding unused
   unused-whole = refl
 
-  pub zero-out : (before : Bool) → (ofZ w32 (numberAt s i) ≡ 0 → ⊥) → false ≡ (before && ranging 0 0 (numberAt s i))
-  zero-out before e = sym (and-right-false before (ranging 0 0 (numberAt s i)) (bits-some (numberAt s i) e))
-
-  pub zero-in : (before : Bool) → mag (numberAt s i) < 2 ^ 31 → ofZ w32 (numberAt s i) ≡ 0 → before ≡ (before && ranging 0 0 (numberAt s i))
-  zero-in before b e = rw (bits-zero (numberAt s i) b e) (sym (and-true before))
-
   -- the numbers so far, and the rest
-  pub zeros-turn : i < length s → (fine next : Bool) → next ≡ (fine && ranging 0 0 (numberAt s i)) → (fine && all (ranging 0 0) (drop i s)) ≡ (next && all (ranging 0 0) (drop (i + 1) s))
-  zeros-turn h fine next e =
+  pub zeros-turn : i < length s → (any : ℕ) → mag (numberAt s i) < 2 ^ 31 →
+      (eqb any 0 && all (ranging 0 0) (drop i s)) ≡ (eqb (bitOr any (ofZ w32 (numberAt s i))) 0 && all (ranging 0 0) (drop (i + 1) s))
+  zeros-turn h any b =
+      let z : ℤ = numberAt s i in
       let rest : Bool = all (ranging 0 0) (drop (i + 1) s) in
-      let q : all (ranging 0 0) (drop i s) ≡ (ranging 0 0 (numberAt s i) && rest) =
-      ap (all (ranging 0 0)) (drop-cons s i (pos 0) h) ∙ all-cons (ranging 0 0) (numberAt s i) (drop (suc i) s) ∙ rw add-one in
-      ap (λ (b : Bool). fine && b) q ∙ sym (and-assoc fine (ranging 0 0 (numberAt s i)) rest) ∙ ap (λ (b : Bool). b && rest) (sym e)
+      let q : all (ranging 0 0) (drop i s) ≡ (ranging 0 0 z && rest) = ap (all (ranging 0 0)) (drop-cons s i (pos 0) h) ∙ all-cons (ranging 0 0) z (drop (suc i) s) ∙ rw add-one in
+      let e : eqb (bitOr any (ofZ w32 z)) 0 ≡ (eqb any 0 && ranging 0 0 z) = or-zero any (ofZ w32 z) ∙ ap (λ (t : Bool). eqb any 0 && t) (bits-are z b) in
+      ap (λ (t : Bool). eqb any 0 && t) q ∙ sym (and-assoc (eqb any 0) (ranging 0 0 z) rest) ∙ ap (λ (t : Bool). t && rest) (sym e)
 
   pub zeros-end : length s ≤ i → (fine : Bool) → (fine && all (ranging 0 0) (drop i s)) ≡ fine
   zeros-end h fine = ap (λ (b : Bool). fine && b) (all-end (ranging 0 0) s i h) ∙ and-true fine

@@ -12,29 +12,17 @@ use cells::cell;
 use cells::is_negative;
 use cells::ranges;
 
-// Whether it was so of those before, and the number there is 0.
-fn zero_too(part: &[i32], at: usize, before: bool) -> bool
-    requires { ⌜ at < length (now part) ⌝ }
-    ensures { λ r. ⌜ r ≡ before && ranging 0 0 (getD (now (part .entry)) at (pos 0)) ⌝ }
-{
-    let number = part[at];
-    if number != 0 {
-        return false;
-    }
-    before
-}
-
 // Whether each number is 0: "unused ones are 0". Most tables are mostly zeros, so every number is looked at: a loop that nothing ends early tests several at once.
 pub fn all_zero(part: &[i32]) -> bool
     ensures { λ r. ⌜ r ≡ unused (now (part .entry)) ⌝ }
 {
-    let mut fine = true;
+    let mut any = 0i32;
     let mut i = 0;
     while i < part.len() {
-        fine = zero_too(part, i, fine);
+        any = any | part[i];
         i += 1;
     }
-    fine
+    any == 0
 }
 
 // Whether no number is below zero.

@@ -4,6 +4,7 @@ use mathlib.Core.Path.{_≡_, sym, _∙_}
 use mathlib.Core.Bool.{_&&_}
 use native.Mathlib.Omega.{arith}
 use lib.ListN.{length, drop}
+use lib.Dec.{eqb}
 use borrow.Author.Needs.{needs}
 use Rattle.lists.specs.Lists.{all}
 use Rattle.format.specs.Structure.{ranging}
@@ -13,16 +14,19 @@ use Rattle.soundness.proofs.parts.all_zero.Statement.{statement}
 use Rattle.soundness.proofs.parts.all_zero.Tie as tie
 
 abbrev Inv-loop : tie.InvT-loop
-Inv-loop part fine₀ i₀ fine i = (i ≤ length part) × (unused part ≡ (fine && all (ranging 0 0) (drop i part)))
+Inv-loop part any₀ i₀ any i = (i ≤ length part) × (unused part ≡ (eqb any 0 && all (ranging 0 0) (drop i part)))
 
 abbrev μ-loop : tie.MeasureT-loop
-μ-loop part fine₀ i₀ fine i = length part - i
+μ-loop part any₀ i₀ any i = length part - i
 
 loop-holds : tie.Need-loop-holds Inv-loop μ-loop
 loop-holds c = (omega arith, unused-whole _ 0)
 
-zero-too-requires : tie.Need-zero-too-requires Inv-loop μ-loop
-zero-too-requires c κs = search needs
+mul-any : tie.Need-mul-any Inv-loop μ-loop
+mul-any c = search needs
+
+shared-slice-copy-out-any : tie.Need-shared-slice-copy-out-any Inv-loop μ-loop
+shared-slice-copy-out-any c = search needs
 
 add-i : tie.Need-add-i Inv-loop μ-loop
 add-i c = search needs
@@ -31,7 +35,7 @@ loop-less : tie.Need-loop-less Inv-loop μ-loop
 loop-less c = search needs
 
 loop-again : tie.Need-loop-again Inv-loop μ-loop
-loop-again c = (omega arith, c .before .before .loop .inv .1 ∙ zeros-turn (c .before .before .before .args .part .now) _ (c .before .loop-test .taken) (c .before .before .loop .fine) _ (c .zero-too .ensures))
+loop-again c = (omega arith, c .before .before .loop .inv .1 ∙ zeros-turn (c .before .before .before .args .part .now) _ (c .before .loop-test .taken) (c .before .before .loop .any) (c .any .given))
 
 returns : tie.Need-returns Inv-loop μ-loop
 returns c = sym (c .before .loop .inv .1 ∙ zeros-end (c .before .before .args .part .now) _ (c .loop-test .left) _)
@@ -39,4 +43,4 @@ returns c = sym (c .before .loop .inv .1 ∙ zeros-end (c .before .before .args 
 pub all-zero-spec : {M : Type 1} → statement M
 all-zero-spec =
     tie.close
-    (tie.spec Inv-loop μ-loop loop-holds zero-too-requires add-i loop-less loop-again returns)
+    (tie.spec Inv-loop μ-loop loop-holds mul-any shared-slice-copy-out-any add-i loop-less loop-again returns)
