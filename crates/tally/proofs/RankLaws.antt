@@ -60,6 +60,9 @@ pub element-is : (r : ℕ) → getD elements r 0 ≡ elementOf r
 unfolding elements elementOf
 element-is r = ap (λ (l : List ℕ). getD (0 ∷ l) r 0) (sym ordered)
 
+pub element-told : (r n : ℕ) → r ≡ n → getD elements n 0 ≡ elementOf r
+element-told r n q = element-is n ∙ ap elementOf (sym q)
+
 elements-bytes : all (λ (e : ℕ). ltb e 256) elements ≡ true
 unfolding all elements
 elements-bytes = refl
@@ -97,6 +100,10 @@ module _ (e : ℕ) (l : 1 ≤ e) (h : e ≤ 103) where
 
   pub rank-high : rankOf e ≤ 103
   rank-high = omega (arith, rank-entry, leb-true (getD ranks e 0) 103 (and-parts (leb 1 (getD ranks e 0)) (leb (getD ranks e 0) 103) (behind .1) .1))
+
+-- told by a number of the table
+pub rank-told : (e n : ℕ) → 1 ≤ n → n ≤ 103 → e ≡ n → (getD ranks n 0 ≤ 103) × (getD ranks n 0 ≡ rankOf e)
+rank-told e n l h q = (omega (arith, rank-entry n l h, rank-high n l h), rank-entry n l h ∙ ap rankOf (sym q))
 
 -- hydrogen stands behind carbon
 pub hydrogen-rank : rankOf 1 ≡ 2
