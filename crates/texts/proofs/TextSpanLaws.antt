@@ -1,7 +1,7 @@
 -- Texts that a table names, as the code tests them: a text is trimmed if and only if as much is kept of it as it has, one of size 0 is fine at place 0 alone, and the
 -- three spans stand at 7, 9 and 11. Serves document 01, "Refusal numbers" (21). Assumes nothing.
 use Prim.Native.Nat.{ℕ, zero, suc, _+_, _-_, _≤_, _<_}
-use mathlib.Core.Path.{_≡_, refl, sym, ap, _∙_}
+use mathlib.Core.Path.{_≡_, refl, sym, ap, ap₂, _∙_}
 use mathlib.Core.Bool.{Bool, true, false, not, _&&_, and-true}
 use mathlib.Core.List.{List, [], _∷_}
 use native.Mathlib.Numerals.{add-one}
@@ -10,22 +10,25 @@ use lib.ListN.{length, getD, take, drop, length-take}
 use lib.Seq.{drop-cons, drop-drop, getD-drop, take-all}
 use lib.IntN.{ℤ, pos, natAbs}
 use lib.Dec.{eqb, leb}
-use borrow.Author.Tests.{eq-eqb, ne-eqb, le-leb, lt-leb}
+use borrow.Author.Tests.{eq-eqb, ne-eqb, le-leb, lt-leb, leb-true, leb-false, not-true, not-false}
 use Rattle.lists.specs.Lists.{all}
-use Rattle.lists.proofs.Bools.{and-left-false, and-right-false}
-use Rattle.lists.proofs.ListLaws.{all-nil, all-in, all-out, all-one}
+use Rattle.lists.proofs.Bools.{and-both, and-left-false, and-right-false, and-shuffle}
+use Rattle.lists.proofs.ListLaws.{all-nil, all-cons, all-end, all-in, all-out, all-one}
 use Rattle.lists.proofs.PairLaws.{same-differ, bytes-same}
 use Rattle.lists.proofs.RegionLaws.{rows-suc, rows-zero}
 use Rattle.format.specs.Bytes.{Bytes, same, allowed, hash, isLabel, trim, unlabelled}
 use Rattle.format.specs.Reading.{Span}
 use Rattle.format.specs.Table.{cell, spanAt, spansOf, textFine, textAt, textOk, spanOk}
-use Rattle.format.proofs.ByteLaws.{label-at, label-at-end, unlabelled-cons}
+use Rattle.format.proofs.ByteLaws.{allowed-seen, allowed-high, label-at, label-at-end, unlabelled-cons, unlabelled-at-end}
 use Rattle.format.proofs.TextLaws.{trim-nil}
 use Rattle.fields.specs.declared.Field.{Field}
 use Rattle.fields.specs.Trims.{Trimmed}
-use Rattle.texts.specs.Spans.{span, labelAfter}
+use Rattle.texts.specs.Spans.{span, labelAfter, plainText}
 
 -- A LABEL LINE INSIDE, by an index
+abbrev byteFine : Bytes → ℕ → Bool
+byteFine s i = allowed (getD s i 0) && not (labelAfter (drop i s))
+
 module _ (s : Bytes) (i : ℕ) (h : i < length s) where
   after-is : labelAfter (drop i s) ≡ (eqb (getD s i 0) 10 && isLabel (drop (i + 1) s))
   after-is = ap labelAfter (drop-cons s i 0 h) ∙ rw add-one
@@ -51,11 +54,39 @@ module _ (s : Bytes) (i : ℕ) (h : i < length s) where
   plain-is : unlabelled (drop i s) ≡ (not (labelAfter (drop i s)) && unlabelled (drop (i + 1) s))
   plain-is = ap unlabelled (drop-cons s i 0 h) ∙ unlabelled-cons (getD s i 0) (drop (suc i) s) ∙ rw (drop-cons s i 0 h, add-one)
 
-  pub plain-hit : labelAfter (drop i s) ≡ true → unlabelled (drop i s) ≡ false
-  plain-hit e = plain-is ∙ and-left-false (not (labelAfter (drop i s))) _ (ap not e)
+  -- ONE BYTE: those from the space on end no line
+  seen-allowed : (b : ℕ) → 32 ≤ b → leb b 126 ≡ allowed b
+  seen-allowed b k = go (leb b 126) refl
+    where
+      go : (t : Bool) → leb b 126 ≡ t → t ≡ allowed b
+      go true e = sym (allowed-seen b k (leb-true b 126 e))
+      go false e = sym (allowed-high b (leb-false b 126 e))
 
-  pub plain-on : labelAfter (drop i s) ≡ false → unlabelled (drop i s) ≡ unlabelled (drop (i + 1) s)
-  plain-on e = plain-is ∙ ap (λ (t : Bool). not t && unlabelled (drop (i + 1) s)) e
+  pub byte-seen : 32 ≤ getD s i 0 → leb (getD s i 0) 126 ≡ byteFine s i
+  byte-seen k =
+      let e : not (labelAfter (drop i s)) ≡ true = ap not (after-other (λ q. omega arith)) in
+      seen-allowed (getD s i 0) k ∙ sym (ap (λ (t : Bool). allowed (getD s i 0) && t) e ∙ and-true (allowed (getD s i 0)))
+
+  pub byte-not : (r : Bool) → r ≡ allowed (getD s i 0) → not r ≡ true → false ≡ byteFine s i
+  byte-not r e k = sym (and-left-false (allowed (getD s i 0)) _ (sym e ∙ not-true r k))
+
+  pub byte-label : (r t : Bool) → r ≡ allowed (getD s i 0) → not r ≡ false → t ≡ labelAfter (drop i s) → not t ≡ byteFine s i
+  byte-label r t e k f = ap not f ∙ ap (λ (u : Bool). u && not (labelAfter (drop i s))) (sym (not-false r k) ∙ e)
+
+  -- and the rest
+  turn-is : plainText (drop i s) ≡ (byteFine s i && plainText (drop (i + 1) s))
+  turn-is =
+      let q : all allowed (drop i s) ≡ (allowed (getD s i 0) && all allowed (drop (i + 1) s)) = ap (all allowed) (drop-cons s i 0 h) ∙ all-cons allowed (getD s i 0) (drop (suc i) s) ∙ rw add-one in
+      ap₂ (λ (t u : Bool). t && u) q plain-is ∙ and-shuffle (allowed (getD s i 0)) (all allowed (drop (i + 1) s)) (not (labelAfter (drop i s))) (unlabelled (drop (i + 1) s))
+
+  pub plain-out : (r : Bool) → r ≡ byteFine s i → not r ≡ true → plainText (drop i s) ≡ false
+  plain-out r e k = turn-is ∙ and-left-false (byteFine s i) _ (sym e ∙ not-true r k)
+
+  pub plain-on : (r : Bool) → r ≡ byteFine s i → not r ≡ false → plainText (drop i s) ≡ plainText (drop (i + 1) s)
+  plain-on r e k = turn-is ∙ ap (λ (t : Bool). t && plainText (drop (i + 1) s)) (sym e ∙ not-false r k)
+
+pub plain-end : (s : Bytes) (i : ℕ) → length s ≤ i → plainText (drop i s) ≡ true
+plain-end s i h = and-both (all allowed (drop i s)) (unlabelled (drop i s)) (all-end allowed s i h) (unlabelled-at-end s i h)
 
 -- A FINE TEXT
 module _ (s : Bytes) where
@@ -75,11 +106,8 @@ module _ (s : Bytes) where
       let e : take (r .to - r .from) (drop (r .from) s) ≡ s = ap (λ (n : ℕ). take (r .to - r .from) (drop n s)) f ∙ take-all (r .to - r .from) s h in
       bytes-same (trim s) s (sym (k .is) ∙ e)
 
-  pub unclean : all allowed s ≡ false → textFine s ≡ false
-  unclean e = fine-is ∙ and-right-false (same (trim s) s) _ (and-left-false (all allowed s) (unlabelled s) e)
-
-  pub fine-plain : (r : Field) → Trimmed s r → length s ≤ r .to - r .from → all allowed s ≡ true → textFine s ≡ unlabelled s
-  fine-plain r k h e = fine-is ∙ rw (trimmed-same r k h, e)
+  pub fine-plain : (r : Field) → Trimmed s r → length s ≤ r .to - r .from → textFine s ≡ plainText s
+  fine-plain r k h = fine-is ∙ rw (trimmed-same r k h)
 
 fine-nil : textFine [] ≡ true
 unfolding unlabelled

@@ -1,11 +1,12 @@
 // The texts that a table names: document 01, "Refusal numbers" ("a text out of bounds, untrimmed, with a byte not allowed, or with `##` right after a line feed").
 ghost use mathlib.Core.Path.{_≡_};
+ghost use mathlib.Core.Bool.{not, _&&_};
 ghost use Prim.Native.Nat.{_<_, _≤_};
-ghost use lib.ListN.{length, drop};
+ghost use lib.ListN.{length, getD, drop};
 ghost use Rattle.lists.specs.Lists.{all};
-ghost use Rattle.format.specs.Bytes.{unlabelled};
+ghost use Rattle.format.specs.Bytes.{allowed};
 ghost use Rattle.format.specs.Table.{spanAt, spansOf, textFine, textOk};
-ghost use Rattle.texts.specs.Spans.{span, labelAfter};
+ghost use Rattle.texts.specs.Spans.{span, labelAfter, plainText};
 use cells::cell;
 use format::Table;
 
@@ -26,13 +27,28 @@ fn label_after(text: &[u8], at: usize) -> bool
     text[at + 2] == 35
 }
 
-// Whether no line but the first is a label line: no "`##` right after a line feed".
+// Whether the byte there is allowed, and no line feed with a label behind it: "a byte not allowed, or .. `##` right after a line feed". Most bytes end at the first test.
+fn byte_fine(text: &[u8], at: usize) -> bool
+    requires { ⌜ at < length (now text) ⌝ }
+    ensures { λ r. ⌜ r ≡ (allowed (getD (now (text .entry)) at 0) && not (labelAfter (drop at (now (text .entry))))) ⌝ }
+{
+    let byte = text[at];
+    if 32 <= byte {
+        return byte <= 126;
+    }
+    if !alphabet::is_allowed(byte) {
+        return false;
+    }
+    !label_after(text, at)
+}
+
+// Whether each byte is: every byte is allowed, and no line but the first is a label line.
 fn plain(text: &[u8]) -> bool
-    ensures { λ r. ⌜ r ≡ unlabelled (now (text .entry)) ⌝ }
+    ensures { λ r. ⌜ r ≡ plainText (now (text .entry)) ⌝ }
 {
     let mut i = 0;
     while i < text.len() {
-        if label_after(text, i) {
+        if !byte_fine(text, i) {
             return false;
         }
         i += 1;
@@ -46,9 +62,6 @@ fn fine(text: &[u8]) -> bool
 {
     let kept = fields::texts::trimmed(text);
     if kept.to - kept.from < text.len() {
-        return false;
-    }
-    if !lines::clean(text) {
         return false;
     }
     plain(text)
