@@ -256,6 +256,16 @@ turn-high k rows (c ∷ cs) h =
     let q : (max k c ≤ rows) × (upTo rows cs ≡ true) = turn-high (max k c) rows cs (p .1) in
     (omega (arith, q .0, le-max-left k c), all-both (λ (m : ℕ). leb m rows) c cs (le-leb c rows (omega (arith, q .0, le-max-right k c))) (q .1))
 
+-- without rows there is nothing out of turn
+pub turn-none : (rows : ℕ) (cs : List ℕ) → rows ≡ 0 → upTo rows cs ≡ true → true ≡ inTurn 0 rows cs
+turn-none rows cs e h = sym (ap (λ (r : ℕ). inTurn 0 r cs) e ∙ go cs (ap (λ (r : ℕ). upTo r cs) (sym e) ∙ h))
+  where
+    go : (cs : List ℕ) → upTo 0 cs ≡ true → inTurn 0 0 cs ≡ true
+    go [] h = turn-nil 0 0
+    go (c ∷ cs) h =
+        let p : (leb c 0 ≡ true) × (upTo 0 cs ≡ true) = all-parts (λ (m : ℕ). leb m 0) c cs h in
+        turn-met 0 0 c cs (leb-true c 0 (p .0)) ∙ go cs (p .1)
+
 -- NO TWO ROWS MEET: rows of two numbers have no atom in common, and of rows in order the first has an atom
 abbrev pub overlaps : Row → Row → Bool
 overlaps r s = overlap (r .atoms) (s .atoms)

@@ -1,6 +1,6 @@
 -- The regions' definitions over what the code has in hand: the counts that it read, the parts that it lent. Assumes nothing.
 use Prim.Native.Nat.{ℕ, _+_, _-_, _*_, _≤_, _<_}
-use mathlib.Core.Path.{_≡_, refl, sym, ap, _∙_}
+use mathlib.Core.Path.{_≡_, refl, sym, ap, ap₂, _∙_}
 use mathlib.Core.Bool.{Bool, true, false, not, _&&_}
 use mathlib.Core.List.{List}
 use native.Mathlib.Omega.{arith}
@@ -14,6 +14,8 @@ use Rattle.format.specs.Bytes.{Bytes}
 use Rattle.format.specs.Table.{cell, spansOf, soundNumbers, textOk, sound}
 use Rattle.soundness.specs.Numbered.{columnOf, inTurn}
 use Rattle.soundness.specs.Sounding.{unused, countsFine, headerFine, atomFine, atomsFine, recordsFine, keyedFine, bondsFine, centresFine, pairsFine, valueFine, valuesFine, chargesFine, radicalsFine, listsFine, regionsFine}
+use Rattle.soundness.proofs.AtomLaws.{columns-fine}
+use Rattle.soundness.proofs.NumberedLaws.{upTo}
 use Rattle.soundness.proofs.HeaderLaws.{Header, counts-parts}
 use Rattle.soundness.proofs.RegionsLaws.{sound-regions}
 
@@ -66,6 +68,19 @@ module _ (t : List ℤ) where
   pub radicals-is : (n c : ℕ) → n ≡ cell t 0 → c ≡ cell t 3 → (valuesFine false 2896 c t && inTurn 0 c (columnOf 4 n t)) ≡ radicalsFine t
   unfolding radicalsFine
   radicals-is n c e f = rw (e, f)
+
+  -- where each atom is fine, the records name no row beyond the last
+  each-fine : atomsFine 103 t ≡ true → all (λ b. b) (rowsFrom 5 (atomFine 103 (cell t 2) (cell t 3)) (cell t 0) (drop 16 t)) ≡ true
+  unfolding atomsFine
+  each-fine h = and-parts (all (λ b. b) (rowsFrom 5 (atomFine 103 (cell t 2) (cell t 3)) (cell t 0) (drop 16 t))) _ h .0
+
+  pub charges-up : (n c : ℕ) → n ≡ cell t 0 → c ≡ cell t 2 → atomsFine 103 t ≡ true → upTo c (columnOf 3 n t) ≡ true
+  unfolding columnOf
+  charges-up n c e f h = ap₂ (λ (m d : ℕ). upTo d (columnOf 3 m t)) e f ∙ columns-fine 103 (cell t 2) (cell t 3) (cell t 0) (drop 16 t) (each-fine h) .0
+
+  pub radicals-up : (n c : ℕ) → n ≡ cell t 0 → c ≡ cell t 3 → atomsFine 103 t ≡ true → upTo c (columnOf 4 n t) ≡ true
+  unfolding columnOf
+  radicals-up n c e f h = ap₂ (λ (m d : ℕ). upTo d (columnOf 4 m t)) e f ∙ columns-fine 103 (cell t 2) (cell t 3) (cell t 0) (drop 16 t) (each-fine h) .1
 
   pub lists-is : (bondsFine t && (chargesFine t && (radicalsFine t && (centresFine t && pairsFine t)))) ≡ listsFine t
   unfolding listsFine

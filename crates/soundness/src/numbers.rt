@@ -5,7 +5,7 @@ ghost use mathlib.Core.Bool.{true};
 ghost use Prim.Native.Nat.{_≤_};
 ghost use lib.ListN.{length};
 ghost use Rattle.format.specs.Table.{soundNumbers};
-ghost use Rattle.soundness.specs.Sounding.{headerFine, listsFine};
+ghost use Rattle.soundness.specs.Sounding.{headerFine, atomsFine, listsFine};
 use crate::atoms::atoms_fine;
 use crate::header::header_fine;
 use crate::keyed::bonds_fine;
@@ -16,7 +16,7 @@ use crate::spread::radicals_fine;
 
 // Whether each list's region is fine.
 fn lists_fine(table: &[i32]) -> bool
-    requires { ⌜ (3856 ≤ length (now table)) × (headerFine (now table) ≡ true) ⌝ }
+    requires { ⌜ (3856 ≤ length (now table)) × (headerFine (now table) ≡ true) × (atomsFine 103 (now table) ≡ true) ⌝ }
     ensures { λ r. ⌜ r ≡ listsFine (now (table .entry)) ⌝ }
 {
     if !bonds_fine(table) {

@@ -1,10 +1,11 @@
 // Charge and radical rows: document 01, "The structure table" ("64 charge values, 64 radical values"; "Charge and radical rows ascend by lowest atom, the row without
 // atoms last.").
 ghost use mathlib.Core.Path.{_≡_};
+ghost use mathlib.Core.Bool.{true};
 ghost use Prim.Native.Nat.{_+_, _≤_};
 ghost use lib.ListN.{length};
 ghost use Rattle.format.specs.Table.{cell as cellOf};
-ghost use Rattle.soundness.specs.Sounding.{valuesFine, chargesFine, radicalsFine};
+ghost use Rattle.soundness.specs.Sounding.{atomsFine, valuesFine, chargesFine, radicalsFine};
 use crate::numbered::rows_in_order;
 use crate::parts::all_zero;
 use crate::parts::values_fine;
@@ -24,7 +25,7 @@ fn spread_fine(table: &[i32], first: usize, rows: usize, signed: bool) -> bool
 
 // Whether the charges' values and the order of their rows are fine.
 pub fn charges_fine(table: &[i32]) -> bool
-    requires { ⌜ (3856 ≤ length (now table)) × (cellOf (now table) 0 ≤ 256) × (cellOf (now table) 2 ≤ 64) ⌝ }
+    requires { ⌜ (3856 ≤ length (now table)) × (cellOf (now table) 0 ≤ 256) × (cellOf (now table) 2 ≤ 64) × (atomsFine 103 (now table) ≡ true) ⌝ }
     ensures { λ r. ⌜ r ≡ chargesFine (now (table .entry)) ⌝ }
 {
     let rows = cell(table, Table::CHARGE_COUNT) as usize;
@@ -37,7 +38,7 @@ pub fn charges_fine(table: &[i32]) -> bool
 
 // Whether the radicals' values and the order of their rows are fine.
 pub fn radicals_fine(table: &[i32]) -> bool
-    requires { ⌜ (3856 ≤ length (now table)) × (cellOf (now table) 0 ≤ 256) × (cellOf (now table) 3 ≤ 64) ⌝ }
+    requires { ⌜ (3856 ≤ length (now table)) × (cellOf (now table) 0 ≤ 256) × (cellOf (now table) 3 ≤ 64) × (atomsFine 103 (now table) ≡ true) ⌝ }
     ensures { λ r. ⌜ r ≡ radicalsFine (now (table .entry)) ⌝ }
 {
     let rows = cell(table, Table::RADICAL_COUNT) as usize;

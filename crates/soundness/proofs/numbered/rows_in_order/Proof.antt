@@ -6,6 +6,7 @@ use borrow.Author.Needs.{needs}
 use lib.ListN.{drop}
 use Rattle.soundness.specs.Numbered.{columnOf, inTurn}
 use Rattle.soundness.proofs.NumberedLoop.{higher-le, turn-at-beyond, turn-at-on, turn-whole, turn-void}
+use Rattle.soundness.proofs.NumberedLaws.{turn-none}
 use Rattle.soundness.proofs.numbered.rows_in_order.Statement.{statement}
 use Rattle.soundness.proofs.numbered.rows_in_order.Tie as tie
 
@@ -14,6 +15,9 @@ Inv-loop table column atoms rows met₀ i₀ met i = (i ≤ atoms) × (met ≤ i
 
 abbrev μ-loop : tie.MeasureT-loop
 μ-loop table column atoms rows met₀ i₀ met i = atoms - i
+
+returns : tie.Need-returns Inv-loop μ-loop
+returns c = turn-none _ _ (c .if1 .taken) (c .before .pre .2)
 
 loop-holds : tie.Need-loop-holds Inv-loop μ-loop
 loop-holds c = (omega arith, omega arith, refl)
@@ -33,11 +37,11 @@ cell-requires c κs = search needs
 cast-row : tie.Need-cast-row Inv-loop μ-loop
 cast-row c = search needs
 
-add-if1 : tie.Need-add-if1 Inv-loop μ-loop
-add-if1 c = omega arith
+add-if2 : tie.Need-add-if2 Inv-loop μ-loop
+add-if2 c = omega arith
 
-returns : tie.Need-returns Inv-loop μ-loop
-returns c = sym (c .before .before .before .loop .inv .2 ∙ turn-at-beyond _ _ _ _ _ _ (c .before .before .before .before .pre .0) (c .before .before .loop-test .taken) _ (c .before .cell .ensures) (c .if1 .taken))
+returns-2 : tie.Need-returns-2 Inv-loop μ-loop
+returns-2 c = sym (c .before .before .before .loop .inv .2 ∙ turn-at-beyond _ _ _ _ _ _ (c .before .before .before .before .before .pre .0) (c .before .before .loop-test .taken) _ (c .before .cell .ensures) (c .if2 .taken))
 
 higher-requires : tie.Need-higher-requires Inv-loop μ-loop
 higher-requires c κs = search needs
@@ -49,16 +53,16 @@ loop-less : tie.Need-loop-less Inv-loop μ-loop
 loop-less c = omega arith
 
 loop-again : tie.Need-loop-again Inv-loop μ-loop
-loop-again c = (omega arith, higher-le _ _ _ _ (c .higher .ensures) (c .before .before .before .before .loop .inv .1) (c .before .if1 .left), c .before .before .before .before .loop .inv .2 ∙ turn-at-on _ _ _ _ _ _ (c .before .before .before .before .before .pre .0) (c .before .before .before .loop-test .taken) _ _ (c .before .before .cell .ensures) (c .before .if1 .left) (c .higher .ensures))
+loop-again c = (omega arith, higher-le _ _ _ _ (c .higher .ensures) (c .before .before .before .before .loop .inv .1) (c .before .if2 .left), c .before .before .before .before .loop .inv .2 ∙ turn-at-on _ _ _ _ _ _ (c .before .before .before .before .before .before .pre .0) (c .before .before .before .loop-test .taken) _ _ (c .before .before .cell .ensures) (c .before .if2 .left) (c .higher .ensures))
 
-returns-2 : tie.Need-returns-2 Inv-loop μ-loop
-returns-2 c = sym (c .before .before .loop .inv .2 ∙ turn-whole _ _ _ _ _ _ (c .before .loop-test .left) (c .if2 .taken))
+returns-3 : tie.Need-returns-3 Inv-loop μ-loop
+returns-3 c = sym (c .before .before .loop .inv .2 ∙ turn-whole _ _ _ _ _ _ (c .before .loop-test .left) (c .if3 .taken))
 
 add-result : tie.Need-add-result Inv-loop μ-loop
 add-result c = omega arith
 
-returns-3 : tie.Need-returns-3 Inv-loop μ-loop
-returns-3 c = sym (c .before .before .loop .inv .2 ∙ turn-void _ _ _ _ _ _ (c .before .loop-test .left) (c .if2 .left))
+returns-4 : tie.Need-returns-4 Inv-loop μ-loop
+returns-4 c = sym (c .before .before .loop .inv .2 ∙ turn-void _ _ _ _ _ _ (c .before .loop-test .left) (c .if3 .left))
 
 pub rows-in-order-spec : {M : Type 1} → statement M
 rows-in-order-spec =
@@ -66,18 +70,19 @@ rows-in-order-spec =
     (tie.spec
     Inv-loop
     μ-loop
+    returns
     loop-holds
     mul-cell
     add-cell
     add-cell-2
     cell-requires
     cast-row
-    add-if1
-    returns
+    add-if2
+    returns-2
     higher-requires
     add-i
     loop-less
     loop-again
-    returns-2
+    returns-3
     add-result
-    returns-3)
+    returns-4)

@@ -12,13 +12,13 @@ returns : tie.Need-returns
 returns c = stop _ _ (c .before .bonds-fine .ensures) _ (c .if1 .taken) ∙ lists-is (c .before .before .args .table .now)
 
 charges-fine-requires : tie.Need-charges-fine-requires
-charges-fine-requires c κs = (c .before .before .pre .0, header-of _ (c .before .before .pre .0) (c .before .before .pre .1) .atoms .high-is, header-of _ (c .before .before .pre .0) (c .before .before .pre .1) .charges .high-is)
+charges-fine-requires c κs = (c .before .before .pre .0, header-of _ (c .before .before .pre .0) (c .before .before .pre .1) .atoms .high-is, header-of _ (c .before .before .pre .0) (c .before .before .pre .1) .charges .high-is, c .before .before .pre .2)
 
 returns-2 : tie.Need-returns-2
 returns-2 c = pass _ _ (c .before .before .before .bonds-fine .ensures) _ _ (c .before .before .if1 .left) (stop _ _ (c .before .charges-fine .ensures) _ (c .if2 .taken)) ∙ lists-is (c .before .before .before .before .args .table .now)
 
 radicals-fine-requires : tie.Need-radicals-fine-requires
-radicals-fine-requires c κs = (c .before .before .before .before .pre .0, header-of _ (c .before .before .before .before .pre .0) (c .before .before .before .before .pre .1) .atoms .high-is, header-of _ (c .before .before .before .before .pre .0) (c .before .before .before .before .pre .1) .radicals .high-is)
+radicals-fine-requires c κs = (c .before .before .before .before .pre .0, header-of _ (c .before .before .before .before .pre .0) (c .before .before .before .before .pre .1) .atoms .high-is, header-of _ (c .before .before .before .before .pre .0) (c .before .before .before .before .pre .1) .radicals .high-is, c .before .before .before .before .pre .2)
 
 returns-3 : tie.Need-returns-3
 returns-3 c = pass _ _ (c .before .before .before .before .before .bonds-fine .ensures) _ _ (c .before .before .before .before .if1 .left) (pass _ _ (c .before .before .before .charges-fine .ensures) _ _ (c .before .before .if2 .left) (stop _ _ (c .before .radicals-fine .ensures) _ (c .if3 .taken))) ∙ lists-is (c .before .before .before .before .before .before .args .table .now)

@@ -19,7 +19,7 @@ returns-2 : tie.Need-returns-2
 returns-2 c = pass _ _ (c .before .before .before .header-fine .ensures) _ _ (c .before .before .if1 .left) (stop _ _ (c .before .atoms-fine .ensures) _ (c .if2 .taken)) ∙ numbers-is (c .before .before .before .before .args .table .now) (c .before .before .before .before .pre)
 
 lists-fine-requires : tie.Need-lists-fine-requires
-lists-fine-requires c κs = (c .before .before .before .before .pre, passed _ _ (c .before .before .before .header-fine .ensures) (c .before .before .if1 .left))
+lists-fine-requires c κs = (c .before .before .before .before .pre, passed _ _ (c .before .before .before .header-fine .ensures) (c .before .before .if1 .left), passed _ _ (c .before .atoms-fine .ensures) (c .if2 .left))
 
 returns-3 : tie.Need-returns-3
 returns-3 c = pass _ _ (c .before .before .before .before .header-fine .ensures) _ _ (c .before .before .before .if1 .left) (pass _ _ (c .before .before .atoms-fine .ensures) _ _ (c .before .if2 .left) (c .lists-fine .ensures)) ∙ numbers-is (c .before .before .before .before .before .args .table .now) (c .before .before .before .before .before .pre)

@@ -1,10 +1,11 @@
 -- `soundness::spread::radicals_fine` meets its contract. Assumes nothing.
 use mathlib.Core.Path.{refl}
 use mathlib.Core.Path.{_∙_}
+use native.Mathlib.Omega.{arith}
 use Rattle.soundness.specs.Numbered.{columnOf, inTurn}
 use Rattle.format.specs.Table.{cell as cellOf}
 use Rattle.soundness.proofs.TestLaws.{stop, pass}
-use Rattle.soundness.proofs.RegionTests.{radicals-is}
+use Rattle.soundness.proofs.RegionTests.{radicals-is, radicals-up}
 use borrow.Author.Needs.{needs}
 use Rattle.soundness.proofs.spread.radicals_fine.Statement.{statement}
 use Rattle.soundness.proofs.spread.radicals_fine.Tie as tie
@@ -28,7 +29,7 @@ cast-atoms : tie.Need-cast-atoms
 cast-atoms c = search needs
 
 rows-in-order-requires : tie.Need-rows-in-order-requires
-rows-in-order-requires c κs = search needs
+rows-in-order-requires c κs = (omega arith, omega (arith, c .cell2 .ensures), radicals-up (c .before .before .before .before .args .table .now) _ _ (c .cell2 .ensures) (c .before .before .before .cell .ensures) (c .before .before .before .before .pre .3))
 
 returns-2 : tie.Need-returns-2
 returns-2 c = pass _ _ (c .before .before .before .spread-fine .ensures) _ _ (c .before .before .if1 .left) (c .rows-in-order .ensures) ∙ radicals-is (c .before .before .before .before .before .args .table .now) _ _ (c .before .cell2 .ensures) (c .before .before .before .before .cell .ensures)
