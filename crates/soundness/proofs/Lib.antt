@@ -11,4 +11,5 @@ pub mod HeaderLaws
 pub mod LaidLaws
 pub mod RegionsLaws
 pub mod TestLaws
+pub mod ZeroLaws
 pub mod RegionTests

@@ -159,14 +159,14 @@ bits-zero z b e = ap (ranging 0 0) (sym (toZ-ofZ (sfits-of b)) ∙ ap (toZ w32) 
 bits-some : (z : ℤ) → (ofZ w32 z ≡ 0 → ⊥) → ranging 0 0 z ≡ false
 bits-some z h = never (ranging 0 0 z) (λ e. h (ap (ofZ w32) (zero-is z e)))
 
-bits-are : (z : ℤ) → mag z < 2 ^ 31 → eqb (ofZ w32 z) 0 ≡ ranging 0 0 z
+pub bits-are : (z : ℤ) → mag z < 2 ^ 31 → eqb (ofZ w32 z) 0 ≡ ranging 0 0 z
 bits-are z b = go (eqb (ofZ w32 z) 0) refl
   where
     go : (t : Bool) → eqb (ofZ w32 z) 0 ≡ t → t ≡ ranging 0 0 z
     go true e = sym (bits-zero z b (eqb-true (ofZ w32 z) 0 e))
     go false e = sym (bits-some z (eqb-false (ofZ w32 z) 0 e))
 
-or-zero : (a b : ℕ) → eqb (bitOr a b) 0 ≡ (eqb a 0 && eqb b 0)
+pub or-zero : (a b : ℕ) → eqb (bitOr a b) 0 ≡ (eqb a 0 && eqb b 0)
 or-zero zero b = refl
 or-zero (suc a) b = ne-eqb (bitOr (suc a) b) 0 (λ e. omega (arith, or-add-and (suc a) b, and-le-r (suc a) b, e)) ∙ rw (ne-eqb (suc a) 0 (λ e. omega arith))
 

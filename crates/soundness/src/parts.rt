@@ -12,8 +12,8 @@ use cells::cell;
 use cells::is_negative;
 use cells::ranges;
 
-// Whether each number is 0: "unused ones are 0". Most tables are mostly zeros, so every number is looked at: a loop that nothing ends early tests several at once.
-pub fn all_zero(part: &[i32]) -> bool
+// Whether each number is 0. The bits of all are laid over one another and tested once: a loop that nothing ends early takes several numbers at once.
+fn each_zero(part: &[i32]) -> bool
     ensures { λ r. ⌜ r ≡ unused (now (part .entry)) ⌝ }
 {
     let mut any = 0i32;
@@ -23,6 +23,40 @@ pub fn all_zero(part: &[i32]) -> bool
         i += 1;
     }
     any == 0
+}
+
+// The same of four parts of one size, side by side.
+fn four_zero(first: &[i32], second: &[i32], third: &[i32], fourth: &[i32], size: usize) -> bool
+    requires { ⌜ (length (now first) ≡ size) × (length (now second) ≡ size) × (length (now third) ≡ size) × (length (now fourth) ≡ size) ⌝ }
+    ensures { λ r. ⌜ r ≡ (unused (now (first .entry)) && (unused (now (second .entry)) && (unused (now (third .entry)) && unused (now (fourth .entry))))) ⌝ }
+{
+    let mut any = 0i32;
+    let mut i = 0;
+    while i < size {
+        any = any | (first[i] | (second[i] | (third[i] | fourth[i])));
+        i += 1;
+    }
+    any == 0
+}
+
+// Whether each number is 0: "unused ones are 0". Most tables are mostly zeros, so every number is looked at, in four parts side by side; three at most are left.
+pub fn all_zero(part: &[i32]) -> bool
+    ensures { λ r. ⌜ r ≡ unused (now (part .entry)) ⌝ }
+{
+    let quarter = part.len() / 4;
+    let half = quarter + quarter;
+    let last = half + quarter;
+    let end = last + quarter;
+    if !four_zero(
+        &part[0..quarter],
+        &part[quarter..half],
+        &part[half..last],
+        &part[last..end],
+        quarter,
+    ) {
+        return false;
+    }
+    each_zero(&part[end..])
 }
 
 // Whether no number is below zero.

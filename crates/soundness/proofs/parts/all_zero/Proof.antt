@@ -1,46 +1,116 @@
 -- `soundness::parts::all_zero` meets its contract. Assumes nothing.
-use Prim.Native.Nat.{_-_, _≤_}
-use mathlib.Core.Path.{_≡_, sym, _∙_}
-use mathlib.Core.Bool.{_&&_}
-use native.Mathlib.Omega.{arith}
-use lib.ListN.{length, drop}
-use lib.Dec.{eqb}
+use Rattle.soundness.proofs.ZeroLaws.{parts-out, parts-rest}
+use Prim.Native.Nat.{_/_}
+use lib.ListN.{length}
 use borrow.Author.Needs.{needs}
-use Rattle.lists.specs.Lists.{all}
-use Rattle.format.specs.Structure.{ranging}
-use Rattle.soundness.specs.Sounding.{unused}
-use Rattle.soundness.proofs.TestLaws.{unused-whole, zeros-turn, zeros-end}
 use Rattle.soundness.proofs.parts.all_zero.Statement.{statement}
 use Rattle.soundness.proofs.parts.all_zero.Tie as tie
 
-abbrev Inv-loop : tie.InvT-loop
-Inv-loop part any₀ i₀ any i = (i ≤ length part) × (unused part ≡ (eqb any 0 && all (ranging 0 0) (drop i part)))
+add-half : tie.Need-add-half
+add-half c = search needs
 
-abbrev μ-loop : tie.MeasureT-loop
-μ-loop part any₀ i₀ any i = length part - i
+add-last : tie.Need-add-last
+add-last c = search needs
 
-loop-holds : tie.Need-loop-holds Inv-loop μ-loop
-loop-holds c = (omega arith, unused-whole _ 0)
+add-end : tie.Need-add-end
+add-end c = search needs
 
-mul-any : tie.Need-mul-any Inv-loop μ-loop
-mul-any c = search needs
+sub-four-zero : tie.Need-sub-four-zero
+sub-four-zero c = search needs
 
-shared-slice-copy-out-any : tie.Need-shared-slice-copy-out-any Inv-loop μ-loop
-shared-slice-copy-out-any c = search needs
+part-four-zero-start : tie.Need-part-four-zero-start
+part-four-zero-start c = search needs
 
-add-i : tie.Need-add-i Inv-loop μ-loop
-add-i c = search needs
+part-four-zero-end : tie.Need-part-four-zero-end
+part-four-zero-end c = search needs
 
-loop-less : tie.Need-loop-less Inv-loop μ-loop
-loop-less c = search needs
+mul-four-zero : tie.Need-mul-four-zero
+mul-four-zero c = search needs
 
-loop-again : tie.Need-loop-again Inv-loop μ-loop
-loop-again c = (omega arith, c .before .before .loop .inv .1 ∙ zeros-turn (c .before .before .before .args .part .now) _ (c .before .loop-test .taken) (c .before .before .loop .any) (c .any .given))
+sub-four-zero-2 : tie.Need-sub-four-zero-2
+sub-four-zero-2 c = search needs
 
-returns : tie.Need-returns Inv-loop μ-loop
-returns c = sym (c .before .loop .inv .1 ∙ zeros-end (c .before .before .args .part .now) _ (c .loop-test .left) _)
+part-four-zero-start-2 : tie.Need-part-four-zero-start-2
+part-four-zero-start-2 c = search needs
+
+part-four-zero-end-2 : tie.Need-part-four-zero-end-2
+part-four-zero-end-2 c = search needs
+
+mul-four-zero-2 : tie.Need-mul-four-zero-2
+mul-four-zero-2 c = search needs
+
+sub-four-zero-3 : tie.Need-sub-four-zero-3
+sub-four-zero-3 c = search needs
+
+part-four-zero-start-3 : tie.Need-part-four-zero-start-3
+part-four-zero-start-3 c = search needs
+
+part-four-zero-end-3 : tie.Need-part-four-zero-end-3
+part-four-zero-end-3 c = search needs
+
+mul-four-zero-3 : tie.Need-mul-four-zero-3
+mul-four-zero-3 c = search needs
+
+sub-four-zero-4 : tie.Need-sub-four-zero-4
+sub-four-zero-4 c = search needs
+
+part-four-zero-start-4 : tie.Need-part-four-zero-start-4
+part-four-zero-start-4 c = search needs
+
+part-four-zero-end-4 : tie.Need-part-four-zero-end-4
+part-four-zero-end-4 c = search needs
+
+four-zero-requires : tie.Need-four-zero-requires
+four-zero-requires c κs = search needs
+
+returns : tie.Need-returns
+returns c = parts-out (c .before .before .before .before .before .before .args .part .now) (length (c .before .before .before .before .before .before .args .part .now) / 4) _ (c .before .four-zero .ensures) (c .if1 .taken)
+
+mul-each-zero : tie.Need-mul-each-zero
+mul-each-zero c = search needs
+
+sub-each-zero : tie.Need-sub-each-zero
+sub-each-zero c = search needs
+
+part-each-zero-start : tie.Need-part-each-zero-start
+part-each-zero-start c = search needs
+
+part-each-zero-end : tie.Need-part-each-zero-end
+part-each-zero-end c = search needs
+
+each-zero-requires : tie.Need-each-zero-requires
+each-zero-requires c κs = search needs
+
+returns-2 : tie.Need-returns-2
+returns-2 c = parts-rest (c .before .before .before .before .before .before .before .before .args .part .now) _ _ (c .before .before .before .four-zero .ensures) (c .before .before .if1 .left) _ (c .each-zero .ensures)
 
 pub all-zero-spec : {M : Type 1} → statement M
 all-zero-spec =
     tie.close
-    (tie.spec Inv-loop μ-loop loop-holds mul-any shared-slice-copy-out-any add-i loop-less loop-again returns)
+    (tie.spec
+    add-half
+    add-last
+    add-end
+    sub-four-zero
+    part-four-zero-start
+    part-four-zero-end
+    mul-four-zero
+    sub-four-zero-2
+    part-four-zero-start-2
+    part-four-zero-end-2
+    mul-four-zero-2
+    sub-four-zero-3
+    part-four-zero-start-3
+    part-four-zero-end-3
+    mul-four-zero-3
+    sub-four-zero-4
+    part-four-zero-start-4
+    part-four-zero-end-4
+    four-zero-requires
+    returns
+    mul-each-zero
+    sub-each-zero
+    part-each-zero-start
+    part-each-zero-end
+    each-zero-requires
+    returns-2)
