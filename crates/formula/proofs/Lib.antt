@@ -2,3 +2,4 @@
 pub mod StepLaws
 pub mod MoveLaws
 pub mod RunLaws
+pub mod EntryLaws

@@ -1,4 +1,6 @@
 // The formula's machine, a byte a step, and what it says of a whole value: document 01, "Rows", MOLFORM.
+pub mod entry; // entry.rt: entries as programs write them
+
 ghost use mathlib.Core.Path.{_≡_};
 ghost use mathlib.Core.Bool.{true};
 ghost use Prim.Native.Nat.{_+_, _-_, _*_, _^_, _<_, _≤_};

@@ -2,18 +2,19 @@
 -- byte's step leaves the meaning of the whole as it was: document 01, "Rows", MOLFORM. Assumes nothing.
 use Prim.Native.Nat.{ℕ, _+_, _≤_, _<_}
 use mathlib.Core.Path.{_≡_, sym, ap, _∙_}
-use mathlib.Core.Bool.{false}
+use mathlib.Core.Bool.{Bool, true, false}
 use mathlib.Core.Option.{Option}
 use mathlib.Core.List.{List, [], _∷_}
 use lib.ListN.{length, getD, drop}
 use lib.Seq.{drop-cons}
 use native.Mathlib.Numerals.{add-one}
-use Rattle.format.proofs.FormulaLaws.{run-at-end}
+use Rattle.format.proofs.FormulaLaws.{formula-is, run-at-end}
 use Rattle.format.specs.Bytes.{Bytes}
-use Rattle.format.specs.Formula.{Counted, counted, FState, finish, join, frun, between, formulaShape}
+use Rattle.format.specs.Formula.{Counted, counted, finish, join, frun, between}
 use Rattle.symbols.specs.ShownSymbols.{symOfMark}
 use Rattle.formula.specs.Machine.{stateShown, closeShown, Sized, Stepped}
-use Rattle.molform.specs.Passes.{Carried}
+use Rattle.formula.specs.Entries.{EntryIs}
+use Rattle.molform.specs.Passes.{Carried, leadOf, Leads}
 use Rattle.symbols.specs.declared.Mark.{Mark}
 use Rattle.formula.specs.declared.State.{State}
 use Rattle.formula.specs.declared.Move.{Move as Step}
@@ -41,10 +42,6 @@ abbrev pub wholeFrom : (ℕ → Option (List Counted) → ℕ) → Bytes → Pas
 wholeFrom value v j i = value (j .held) (frun (stateShown (j .state)) (drop i v))
 
 module _ (value : ℕ → Option (List Counted) → ℕ) (v : Bytes) where
-  pub pass-start : (q : State) (w : ℕ) → stateShown q ≡ between false → value w (formulaShape v) ≡ wholeFrom value v (pass q w) 0
-  unfolding formulaShape
-  pass-start q w e = ap (λ (p : FState). value w (frun p v)) (sym e)
-
   pub pass-on : (i : ℕ) (from to : Pass) → i < length v → Carried value from (getD v i 0) to → wholeFrom value v from i ≡ wholeFrom value v to (i + 1)
   pass-on i from to h j =
       let e : drop i v ≡ getD v i 0 ∷ drop (i + 1) v = drop-cons v i 0 h ∙ ap (λ (n : ℕ). getD v i 0 ∷ drop n v) (sym (add-one i)) in
@@ -52,6 +49,15 @@ module _ (value : ℕ → Option (List Counted) → ℕ) (v : Bytes) where
 
   pub pass-end : (i : ℕ) (j : Pass) → length v ≤ i → wholeFrom value v j i ≡ value (j .held) (finish (stateShown (j .state)))
   pass-end i j h = ap (value (j .held)) (run-at-end (stateShown (j .state)) v i h)
+
+-- THE QUICK ENTRIES that a value starts with
+module _ (value : ℕ → Option (List Counted) → ℕ) (s : Bytes) where
+  pub lead-start : Leads value s (leadOf 0 false 0)
+  lead-start = record { is = ap (value 0) (formula-is s) }
+
+  pub lead-on : (w at n u next : ℕ) (begun : Bool) (x : Mark) → Leads value s (leadOf w begun at) → EntryIs s at x n next → ((r : Option (List Counted)) → value w (join (counted (symOfMark x) n ∷ []) r) ≡ value u r) →
+      Leads value s (leadOf u true next)
+  lead-on w at n u next begun x l e p = record { is = l .is ∙ ap (value w) (e .is begun) ∙ p (frun (between true) (drop next s)) }
 
 -- THE END, by what the code's end answered
 pub ended : (value : ℕ → Option (List Counted) → ℕ) (w : ℕ) (q : State) (o p : Close) → closeShown o ≡ finish (stateShown q) → o ≡ p → value w (closeShown p) ≡ value w (finish (stateShown q))

@@ -5,12 +5,14 @@ ghost use Rattle.format.specs.Formula.{counted, finish, formulaShape};
 ghost use Rattle.symbols.specs.ShownSymbols.{symOfMark};
 ghost use Rattle.formula.specs.Machine.{stateShown, Sized};
 ghost use Rattle.molform.specs.Verdicts.{lowest, entriesVerdict, formulaVerdict, refusalWith};
-ghost use Rattle.molform.specs.Passes.{Carried};
+ghost use Rattle.molform.specs.Passes.{Carried, Leads};
 use elements::isotope_of;
 use elements::mass_fits;
 use formula::Close;
 use formula::Move;
 use formula::State;
+use formula::entry::QuickEntry;
+use formula::entry::quick_entry;
 use formula::formula_end;
 use formula::formula_step;
 use symbols::Mark;
@@ -19,6 +21,13 @@ use symbols::Mark;
 pub struct Pass {
     pub state: State,
     pub held: u32,
+}
+
+// How far the quick entries from the value's start reach: the place behind them, whether the fragment has an entry there, and their lowest refusal (0 none).
+pub struct Lead {
+    pub held: u32,
+    pub begun: bool,
+    pub at: usize,
 }
 
 // The lower of two refusals; 0 is none.
@@ -85,15 +94,34 @@ fn judged_end(pass: Pass, last: u32) -> u32
     }
 }
 
+// The entries that a value starts with, as far as they are quick ones: they are judged with no machine's state, which is passed on in memory at each byte.
+fn judged_lead(value: &[u8], last: u32) -> Lead
+    ensures { λ r. ⌜ Leads (refusalWith last) (now (value .entry)) r ⌝ }
+{
+    let mut held = 0;
+    let mut begun = false;
+    let mut at = 0;
+    while at < value.len() {
+        let QuickEntry::Entry(mark, count, next) = quick_entry(value, at) else {
+            return Lead { held, begun, at };
+        };
+        held = lower_refusal(held, entry_verdict(mark, count, last));
+        begun = true;
+        at = next;
+    }
+    Lead { held, begun, at }
+}
+
 // The refusal of MOLFORM's value: 9, "row of the wrong shape", 10, "number outside its range", 12, "unknown symbol", or 0.
 pub fn formula_verdict(value: &[u8], last: u32) -> u32
     ensures { λ r. ⌜ r ≡ formulaVerdict last (formulaShape (now (value .entry))) ⌝ }
 {
+    let lead = judged_lead(value, last);
     let mut pass = Pass {
-        state: State::Between(false),
-        held: 0,
+        state: State::Between(lead.begun),
+        held: lead.held,
     };
-    let mut i = 0;
+    let mut i = lead.at;
     while i < value.len() {
         pass = judged_step(pass, value[i], last);
         i += 1;
