@@ -15,7 +15,7 @@ use Rattle.lists.proofs.Bools.{and-parts, and-both, never}
 use Rattle.lists.proofs.ListLaws.{all-parts, all-imply}
 use Rattle.format.specs.Bytes.{Bytes, within}
 use Rattle.format.specs.Rows.{Sym}
-use Rattle.format.specs.Formula.{Counted as Told, counted, finish, join, frun, formulaShape}
+use Rattle.format.specs.Formula.{Counted as Told, counted, between, finish, join, frun, formulaShape}
 use Rattle.format.specs.Structure.{Isotope, isotope, Atom, atomOk, Entry, entry, entriesOf, total, agree}
 use Rattle.format.proofs.ByteLaws.{within-true, within-is}
 use Rattle.format.proofs.FormulaLaws.{run-at-end, formula-is}
@@ -23,6 +23,7 @@ use Rattle.format.proofs.TotalLaws.{total-nil, total-append, agree-every, every
 use Rattle.symbols.specs.ShownSymbols.{symOfMark}
 use Rattle.symbols.specs.declared.Mark.{Mark}
 use Rattle.formula.specs.Machine.{stateShown, closeShown, Sized, Stepped}
+use Rattle.formula.specs.Entries.{EntryIs}
 use Rattle.formula.specs.declared.State.{State}
 use Rattle.formula.specs.declared.State.the-variants.{Between}
 use Rattle.formula.specs.declared.Move.{Move as Step}
@@ -33,9 +34,11 @@ use Rattle.formula.proofs.RunLaws.{still-run, still-sized, tells-run, tells-siz
 use Rattle.sorted.specs.Regions.{kindsRegion}
 use Rattle.gather.specs.Progress.{entriesFrom, entryFine}
 use Rattle.totals.specs.Left.{Takes, Took, Counts, Tallied, Says, Answers, Answered}
-use Rattle.totals.specs.Taking.{TookByte}
+use Rattle.totals.specs.Taking.{TookByte, Owing, TookLead}
 use Rattle.totals.specs.declared.Taken.{Taken}
 use Rattle.totals.specs.declared.Taken.the-variants.{On, Short}
+use Rattle.totals.specs.declared.Lead.{Lead}
+use Rattle.totals.specs.declared.Lead.the-variants as L
 use Rattle.totals.proofs.LeftLaws.{total-own}
 use Rattle.totals.proofs.TallyLaws.{atom-total}
 
@@ -119,29 +122,46 @@ module _ (k : ℕ) (left : Isotope → ℕ) (q : State) (o : Close) (is : closeS
     pub end-short : t ≡ false → Answered k left (finish (stateShown q)) false
     end-short z = ended (Last x n) e false (answers-short k (symOfMark x) n left next (takes-as k left next (entry (isotope k (symOfMark x)) n) t false z taken) (some []))
 
--- THE WHOLE VALUE, from a place on: the answer for what stands from there is the answer for all of it
-abbrev pub Owing : (k : ℕ) → (old left : Isotope → ℕ) → Bytes → State → (i : ℕ) → Type 0
-Owing k old left s q i = (r : Bool) → Answers k left (frun (stateShown q) (drop i s)) r → Answers k old (formulaShape s) r
-
-pub owing-starts : (k : ℕ) (left : Isotope → ℕ) (s : Bytes) → Owing k left left s (Between false) 0
-owing-starts k left s r f = rw (formula-is s) f
-
-module _ (k : ℕ) (old left next : Isotope → ℕ) (s : Bytes) (q : State) (i : ℕ) (g : Owing k old left s q i) where
-  pub owing-goes : i < length s → (o : Taken) (to : State) → o ≡ On to → TookByte k left next q (getD s i 0) o → Owing k old next s to (i + 1)
-  owing-goes h o to e t r f =
+-- THE WHOLE VALUE, from a place on
+module _ (k : ℕ) (old left next : Isotope → ℕ) (whole : Option (List Told)) (s : Bytes) (q : State) (i : ℕ) (g : Owing k old left whole s q i) where
+  pub owing-goes : i < length s → (o : Taken) (to : State) → o ≡ On to → TookByte k left next q (getD s i 0) o → Owing k old next whole s to (i + 1)
+  owing-goes h o to e t =
       let u : TookByte k left next q (getD s i 0) (On to) = subst (TookByte k left next q (getD s i 0)) e t in
-      g r (rw (rest-cons s i h) (u .is .1 (drop (i + 1) s) r f))
+      record { is = λ r f. g .is r (rw (rest-cons s i h) (u .is .1 (drop (i + 1) s) r f)) }
 
   pub owing-sized : (o : Taken) (to : State) → o ≡ On to → TookByte k left next q (getD s i 0) o → Sized to
   owing-sized o to e t = let u : TookByte k left next q (getD s i 0) (On to) = subst (TookByte k left next q (getD s i 0)) e t in u .is .0
 
-  pub owing-short : i < length s → (o : Taken) → o ≡ Short → TookByte k left next q (getD s i 0) o → Answered k old (formulaShape s) false
+  pub owing-short : i < length s → (o : Taken) → o ≡ Short → TookByte k left next q (getD s i 0) o → Answered k old whole false
   owing-short h o e t =
       let u : TookByte k left next q (getD s i 0) Short = subst (TookByte k left next q (getD s i 0)) e t in
-      record { is = g false (rw (rest-cons s i h) (u .is (drop (i + 1) s))) }
+      record { is = g .is false (rw (rest-cons s i h) (u .is (drop (i + 1) s))) }
 
-  pub owing-ends : length s ≤ i → (r : Bool) → Answered k left (finish (stateShown q)) r → Answered k old (formulaShape s) r
-  owing-ends h r f = record { is = g r (rw (run-at-end (stateShown q) s i h) (f .is)) }
+  pub owing-ends : length s ≤ i → (r : Bool) → Answered k left (finish (stateShown q)) r → Answered k old whole r
+  owing-ends h r f = record { is = g .is r (rw (run-at-end (stateShown q) s i h) (f .is)) }
+
+-- THE QUICK ENTRIES that the value starts with
+pub lead-starts : (k : ℕ) (left : Isotope → ℕ) (s : Bytes) → Owing k left left (formulaShape s) s (Between false) 0
+lead-starts k left s = record { is = λ r f. rw (formula-is s) f }
+
+module _ (k : ℕ) (old left next : Isotope → ℕ) (s : Bytes) (begun : Bool) (at : ℕ) (g : Owing k old left (formulaShape s) s (Between begun) at) (x : Mark) (n to : ℕ) (h : EntryIs s at x n to) (t : Bool)
+    (taken : TakesFine k left next (entry (isotope k (symOfMark x)) n) t) where
+  pub lead-goes : t ≡ true → Owing k old next (formulaShape s) s (Between true) to
+  lead-goes z = record {
+    is = λ r f. g .is r (rw (h .is begun) (answers-more k (symOfMark x) n left next (takes-as k left next (entry (isotope k (symOfMark x)) n) t true z taken) (frun (between true) (drop to s)) r f));
+  }
+
+  pub lead-short : t ≡ false → TookLead k old next s L.Short
+  lead-short z =
+      record { is = g .is false (rw (h .is begun) (answers-short k (symOfMark x) n left next (takes-as k left next (entry (isotope k (symOfMark x)) n) t false z taken) (frun (between true) (drop to s)))) }
+
+-- the answer for what stands behind them is the answer for the whole
+module _ (k : ℕ) (old left : Isotope → ℕ) (s : Bytes) (r : Lead) (h : TookLead k old left s r) where
+  pub lead-answers : (begun : Bool) (at : ℕ) → r ≡ L.To begun at → (b : Bool) → Answered k left (frun (between begun) (drop at s)) b → Answered k old (formulaShape s) b
+  lead-answers begun at e b f = let u : TookLead k old left s (L.To begun at) = subst (TookLead k old left s) e h in record { is = u .is .is b (f .is) }
+
+  pub lead-failed : r ≡ L.Short → Answered k old (formulaShape s) false
+  lead-failed e = let u : TookLead k old left s L.Short = subst (TookLead k old left s) e h in record { is = u .is }
 
 -- AGREEING: some atoms are listed, so that a value without shape does not agree
 pub none-agrees : (listed : List Atom) → 0 < length listed → agree [] (entriesOf listed) ≡ false

@@ -2,7 +2,7 @@
 -- formula's total .. equals the atoms listed". Assumes nothing.
 use Prim.Native.Nat.{ℕ, zero, suc, _+_, _-_, _≤_, _<_}
 use mathlib.Core.Path.{_≡_, refl, sym, ap, ap₂, _∙_}
-use mathlib.Core.Bool.{Bool, true, false}
+use mathlib.Core.Bool.{Bool, true, false, _&&_}
 use mathlib.Core.List.{List, [], _∷_}
 use native.Mathlib.Numerals.{add-one}
 use native.Mathlib.Omega.{arith}
@@ -12,7 +12,7 @@ use lib.Dec.{eqb}
 use borrow.Author.Tests.{eqb-true, eq-eqb, ne-eqb}
 use Rattle.lists.specs.Lists.{all}
 use Rattle.lists.proofs.Bools.{torn, and-left-false, and-right-false}
-use Rattle.lists.proofs.ListLaws.{all-nil, all-parts, all-both}
+use Rattle.lists.proofs.ListLaws.{all-nil, all-parts, all-both, all-step, all-miss, all-end}
 use Rattle.format.specs.Structure.{Isotope, isotopeOf, Entry, entry, sameIsotope, total}
 use Rattle.format.proofs.TotalLaws.{share, isotope-is, isotope-same, isotope-refl, total-nil, total-cons}
 use Rattle.totals.specs.Left.{byMass, cellOf, heavyOf, leftOf, isZero, Blank, Adds, Takes, Counts, Says}
@@ -202,6 +202,28 @@ all-blank (x ∷ l) h (suc n) = all-blank l (all-parts isZero x l h .1) n
 pub blank-all : (l : List ℕ) → Blank l → all isZero l ≡ true
 blank-all [] b = all-nil isZero
 blank-all (x ∷ l) b = all-both isZero x l (eq-eqb x 0 (b 0)) (blank-all l (λ n. b (suc n)))
+
+-- cells that are looked at one after the other, a telling whether those before are 0
+and-true : (a : Bool) → (a && true) ≡ a
+and-true true = refl
+and-true false = refl
+
+pub clear-kept : (a : Bool) (n : ℕ) → n ≡ 0 → a ≡ (a && isZero n)
+clear-kept a n e = sym (ap (λ (b : Bool). a && b) (eq-eqb n 0 e) ∙ and-true a)
+
+pub clear-lost : (a : Bool) (n : ℕ) → (n ≡ 0 → ⊥) → false ≡ (a && isZero n)
+clear-lost a n e = sym (and-right-false a (isZero n) (ne-eqb n 0 e))
+
+module _ (l : List ℕ) (i : ℕ) (a : Bool) where
+  pub clear-on : (r : Bool) → i < length l → r ≡ (a && isZero (getD l i 0)) → (a && all isZero (drop i l)) ≡ (r && all isZero (drop (i + 1) l))
+  clear-on r h q = go (isZero (getD l i 0)) refl
+    where
+      go : (t : Bool) → isZero (getD l i 0) ≡ t → (a && all isZero (drop i l)) ≡ (r && all isZero (drop (i + 1) l))
+      go true e = ap (λ (b : Bool). a && b) (all-step isZero 0 l i h e) ∙ ap (λ (b : Bool). b && all isZero (drop (i + 1) l)) (sym (q ∙ ap (λ (b : Bool). a && b) e ∙ and-true a))
+      go false e = and-right-false a (all isZero (drop i l)) (all-miss isZero 0 l i h e) ∙ sym (and-left-false r (all isZero (drop (i + 1) l)) (q ∙ and-right-false a (isZero (getD l i 0)) e))
+
+  pub clear-end : length l ≤ i → (a && all isZero (drop i l)) ≡ a
+  clear-end h = ap (λ (b : Bool). a && b) (all-end isZero l i h) ∙ and-true a
 
 -- where no isotope has an atom, no cell has one
 pub heavy-none : (es ms : List ℕ) → length es ≡ length ms → ((i : Isotope) → 0 < i .mass → heavyOf i es ms ≡ 0) → Blank ms

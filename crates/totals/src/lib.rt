@@ -2,7 +2,7 @@
 // hydrogens counted as hydrogen without mass." The atoms are tallied, each entry of the formula is taken from the tally, and nothing may be left. Atoms without
 // mass are counted by element; each atom with a mass has a cell of two lists, its element and its mass.
 ghost use mathlib.Core.Path.{_≡_};
-ghost use mathlib.Core.Bool.{true};
+ghost use mathlib.Core.Bool.{true, _&&_};
 ghost use mathlib.Core.List.{List, []};
 ghost use Prim.Native.Nat.{ℕ, _+_, _<_, _≤_};
 ghost use lib.ListN.{length, getD, set, drop};
@@ -13,12 +13,14 @@ ghost use Rattle.symbols.specs.ShownSymbols.{symOfMark};
 ghost use Rattle.formula.specs.Machine.{stateShown, Sized};
 ghost use Rattle.sorted.specs.Regions.{kindsRegion};
 ghost use Rattle.gather.specs.Progress.{entriesFrom, entryFine};
-ghost use Rattle.totals.specs.Taking.{TookByte};
+ghost use Rattle.totals.specs.Taking.{TookByte, TookLead};
 ghost use Rattle.totals.specs.Left.{leftOf, isZero, Blank, Adds, Takes, Took, Counts, Says, Tallied, Answered, cellOf};
 use elements::isotope_of;
 use formula::Close;
 use formula::Move;
 use formula::State;
+use formula::entry::QuickEntry;
+use formula::entry::quick_entry;
 use formula::formula_end;
 use formula::formula_step;
 use symbols::Mark;
@@ -26,6 +28,12 @@ use symbols::Mark;
 // The machine behind a byte, the entry taken that ended there; or that an entry asks for more than is left.
 pub enum Taken {
     On(State),
+    Short,
+}
+
+// How far the quick entries from the formula's start reach, each taken: whether the fragment has an entry there, and the place; or that one asks for more than is left.
+pub enum Lead {
+    To(bool, usize),
     Short,
 }
 
@@ -138,18 +146,27 @@ fn take(
     true
 }
 
-// Whether every cell is 0.
+// Whether the cells before were 0 and this one is.
+fn still_zero(clear: bool, cell: u32) -> bool
+    ensures { λ r. ⌜ r ≡ (clear && isZero cell) ⌝ }
+{
+    if cell != 0 {
+        return false;
+    }
+    clear
+}
+
+// Whether every cell is 0. All of them are looked at, since most often all are 0: a loop with one way out is compiled into tests of several cells at once.
 fn all_zero(cells: &[u32]) -> bool
     ensures { λ r. ⌜ r ≡ all isZero (now (cells .entry)) ⌝ }
 {
+    let mut clear = true;
     let mut i = 0;
     while i < cells.len() {
-        if cells[i] != 0 {
-            return false;
-        }
+        clear = still_zero(clear, cells[i]);
         i += 1;
     }
-    true
+    clear
 }
 
 // Whether nothing is left.
@@ -231,6 +248,32 @@ fn take_end(
     }
 }
 
+// The entries that the formula starts with, as far as they are quick ones: they are taken with no machine's state, which is passed on in memory at each byte.
+fn take_lead(
+    formula: &[u8],
+    last: u32,
+    counts: &mut [u32],
+    elements: &[u32],
+    masses: &mut [u32],
+) -> Lead
+    requires { ⌜ (last ≤ 103) × (length (now counts) ≡ 104) × (length (now elements) ≡ 256) × (length (now masses) ≡ 256) ⌝ }
+    ensures { λ r. ⌜ (length (now (counts .exit)) ≡ 104) × (length (now (masses .exit)) ≡ 256) × TookLead last (leftOf (now (counts .entry)) (now (elements .entry)) (now (masses .entry))) (leftOf (now (counts .exit)) (now (elements .entry)) (now (masses .exit))) (now (formula .entry)) r ⌝ }
+{
+    let mut begun = false;
+    let mut at = 0;
+    while at < formula.len() {
+        let QuickEntry::Entry(mark, count, next) = quick_entry(formula, at) else {
+            return Lead::To(begun, at);
+        };
+        if !take_entry(mark, count, last, counts, elements, masses) {
+            return Lead::Short;
+        }
+        begun = true;
+        at = next;
+    }
+    Lead::To(begun, at)
+}
+
 // Takes the whole formula from what is left: whether each entry finds its atoms and nothing is left behind the last.
 fn take_formula(
     formula: &[u8],
@@ -242,8 +285,11 @@ fn take_formula(
     requires { ⌜ (last ≤ 103) × (length (now counts) ≡ 104) × (length (now elements) ≡ 256) × (length (now masses) ≡ 256) ⌝ }
     ensures { λ r. ⌜ Answered last (leftOf (now (counts .entry)) (now (elements .entry)) (now (masses .entry))) (formulaShape (now (formula .entry))) r ⌝ }
 {
-    let mut state = State::Between(false);
-    let mut i = 0;
+    let Lead::To(begun, from) = take_lead(formula, last, counts, elements, masses) else {
+        return false;
+    };
+    let mut state = State::Between(begun);
+    let mut i = from;
     while i < formula.len() {
         match take_byte(state, formula[i], last, counts, elements, masses) {
             Taken::On(next) => {

@@ -1,32 +1,32 @@
 -- `totals::all_zero` meets its contract. Assumes nothing.
 use Prim.Native.Nat.{_-_}
 use mathlib.Core.Path.{_≡_, refl, sym, _∙_}
+use mathlib.Core.Bool.{_&&_}
 use borrow.Author.Needs.{needs}
-use borrow.Author.Tests.{eq-eqb, ne-eqb}
 use lib.ListN.{length, drop}
 use Rattle.lists.specs.Lists.{all}
-use Rattle.lists.proofs.ListLaws.{all-step, all-miss, all-end}
 use Rattle.totals.specs.Left.{isZero}
+use Rattle.totals.proofs.LeftLaws.{clear-on, clear-end}
 use Rattle.totals.proofs.all_zero.Statement.{statement}
 use Rattle.totals.proofs.all_zero.Tie as tie
 
 abbrev Inv-loop : tie.InvT-loop
-Inv-loop cells i₀ i = all isZero cells ≡ all isZero (drop i cells)
+Inv-loop cells clear₀ i₀ clear i = all isZero cells ≡ (clear && all isZero (drop i cells))
 
 abbrev μ-loop : tie.MeasureT-loop
-μ-loop cells i₀ i = length cells - i
+μ-loop cells clear₀ i₀ clear i = length cells - i
 
 loop-holds : tie.Need-loop-holds Inv-loop μ-loop
 loop-holds c = refl
 
-mul-if1 : tie.Need-mul-if1 Inv-loop μ-loop
-mul-if1 c = search needs
+mul-still-zero : tie.Need-mul-still-zero Inv-loop μ-loop
+mul-still-zero c = search needs
 
-shared-slice-read-if1 : tie.Need-shared-slice-read-if1 Inv-loop μ-loop
-shared-slice-read-if1 c = search needs
+shared-slice-read-still-zero : tie.Need-shared-slice-read-still-zero Inv-loop μ-loop
+shared-slice-read-still-zero c = search needs
 
-returns : tie.Need-returns Inv-loop μ-loop
-returns c = sym (c .before .before .before .loop .inv ∙ all-miss isZero 0 _ _ (c .before .before .loop-test .taken) (ne-eqb _ _ (c .if1 .taken)))
+still-zero-requires : tie.Need-still-zero-requires Inv-loop μ-loop
+still-zero-requires c κs = search needs
 
 add-i : tie.Need-add-i Inv-loop μ-loop
 add-i c = search needs
@@ -35,10 +35,10 @@ loop-less : tie.Need-loop-less Inv-loop μ-loop
 loop-less c = search needs
 
 loop-again : tie.Need-loop-again Inv-loop μ-loop
-loop-again c = c .before .before .before .loop .inv ∙ all-step isZero 0 _ _ (c .before .before .loop-test .taken) (eq-eqb _ _ (c .if1 .left))
+loop-again c = let n = c .before .before in n .before .loop .inv ∙ clear-on _ _ (n .before .loop .clear) _ (n .loop-test .taken) (c .still-zero .ensures)
 
-returns-2 : tie.Need-returns-2 Inv-loop μ-loop
-returns-2 c = sym (c .before .loop .inv ∙ all-end isZero _ _ (c .loop-test .left))
+returns : tie.Need-returns Inv-loop μ-loop
+returns c = sym (c .before .loop .inv ∙ clear-end _ _ (c .before .loop .clear) (c .loop-test .left))
 
 pub all-zero-spec : {M : Type 1} → statement M
 all-zero-spec =
@@ -47,10 +47,10 @@ all-zero-spec =
     Inv-loop
     μ-loop
     loop-holds
-    mul-if1
-    shared-slice-read-if1
-    returns
+    mul-still-zero
+    shared-slice-read-still-zero
+    still-zero-requires
     add-i
     loop-less
     loop-again
-    returns-2)
+    returns)
