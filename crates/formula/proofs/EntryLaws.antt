@@ -1,15 +1,14 @@
--- A quick entry, piece by piece, as a run of the formula's machine: the blanks before it, its letters, its count, the blank behind it. Document 01, "Rows", MOLFORM.
+-- A quick entry, piece by piece, as a run of the formula's machine: the gaps before it, its letters, its count, the gap behind it. Document 01, "Rows", MOLFORM.
 -- Assumes nothing.
 use Prim.Native.Nat.{ℕ, suc, _+_, _-_, _*_, _^_, _≤_, _<_}
 use mathlib.Core.Path.{_≡_, refl, ap, _∙_}
 use mathlib.Core.Bool.{Bool, true, false}
-use mathlib.Core.List.{[], _∷_}
 use native.Mathlib.Omega.{arith}
 use lib.ListN.{length, getD, drop}
 use borrow.Author.Tests.{ne-eqb}
 use Rattle.format.specs.Bytes.{Bytes, gap}
 use Rattle.format.specs.Rows.{Sym, symOf, digit, upper, lower}
-use Rattle.format.specs.Formula.{counted, FState, between, atOne, atTwo, inCount, still, tells, part, leave, fstep, join, frun}
+use Rattle.format.specs.Formula.{counted, FState, between, atOne, atTwo, inCount, still, tells, leave, fstep, frun}
 use Rattle.format.proofs.ByteLaws.{within-low, gap-small, digit-lower}
 use Rattle.format.proofs.FormulaLaws.{part-gap, leave-part, count-or-digit, count-or-other, between-upper, between-gap, one-lower, one-other, two-is, count-digit, count-other, run-at, run-at-goes}
 use Rattle.symbols.specs.ShownSymbols.{symOfMark}
@@ -23,7 +22,7 @@ use Rattle.formula.specs.declared.entry.CountAt.the-variants as C
 use Rattle.formula.specs.declared.entry.QuickEntry.{QuickEntry}
 use Rattle.formula.specs.declared.entry.QuickEntry.the-variants as Q
 
--- A BLANK is no letter, no digit, no `/` and no `^`
+-- A GAP is no letter, no digit, no `/` and no `^`
 module _ (b : ℕ) (g : gap b ≡ true) where
   no-upper : upper b ≡ false
   no-upper = within-low 65 90 b (omega (arith, gap-small b g))
@@ -34,38 +33,38 @@ module _ (b : ℕ) (g : gap b ≡ true) where
   no-digit : digit b ≡ false
   no-digit = within-low 48 57 b (omega (arith, gap-small b g))
 
-  between-blank : (begun : Bool) → fstep (between begun) b ≡ still (between begun)
-  between-blank begun = between-gap begun b no-upper (ne-eqb b 94 (λ e. omega (arith, gap-small b g))) g
+  between-passes : (begun : Bool) → fstep (between begun) b ≡ still (between begun)
+  between-passes begun = between-gap begun b no-upper (ne-eqb b 94 (λ e. omega (arith, gap-small b g))) g
 
   -- it ends an entry
-  part-blank : (x : Sym) (n : ℕ) → leave (counted x n) b ≡ tells (counted x n) (between true)
-  part-blank x n = leave-part (counted x n) b no-upper ∙ part-gap (counted x n) b g
+  leave-gap : (x : Sym) (n : ℕ) → leave (counted x n) b ≡ tells (counted x n) (between true)
+  leave-gap x n = leave-part (counted x n) b no-upper ∙ part-gap (counted x n) b g
 
-  one-blank : (a : ℕ) → fstep (atOne false 0 a) b ≡ tells (counted (symOf false 0 a 0) 1) (between true)
-  one-blank a = one-other false 0 a b no-lower ∙ count-or-other _ b _ no-digit (ne-eqb b 47 (λ e. omega (arith, gap-small b g))) ∙ part-gap _ b g
+  one-gap : (a : ℕ) → fstep (atOne false 0 a) b ≡ tells (counted (symOf false 0 a 0) 1) (between true)
+  one-gap a = one-other false 0 a b no-lower ∙ count-or-other _ b _ no-digit (ne-eqb b 47 (λ e. omega (arith, gap-small b g))) ∙ part-gap _ b g
 
-  two-blank : (x : Sym) → fstep (atTwo x) b ≡ tells (counted x 1) (between true)
-  two-blank x = two-is x b ∙ count-or-other x b _ no-digit (ne-eqb b 47 (λ e. omega (arith, gap-small b g))) ∙ part-blank x 1
+  two-gap : (x : Sym) → fstep (atTwo x) b ≡ tells (counted x 1) (between true)
+  two-gap x = two-is x b ∙ count-or-other x b _ no-digit (ne-eqb b 47 (λ e. omega (arith, gap-small b g))) ∙ leave-gap x 1
 
-  count-blank : (x : Sym) (n v : ℕ) → fstep (inCount x n v) b ≡ tells (counted x v) (between true)
-  count-blank x n v = count-other x n v b no-digit ∙ part-blank x v
+  count-gap : (x : Sym) (n v : ℕ) → fstep (inCount x n v) b ≡ tells (counted x v) (between true)
+  count-gap x n v = count-other x n v b no-digit ∙ leave-gap x v
 
--- THE BLANKS before an entry
+-- THE GAPS before an entry
 pub gaps-none : (s : Bytes) (at : ℕ) → PastGaps s at at
 gaps-none s at = record { low = omega arith; is = λ begun. refl }
 
 pub gaps-more : (s : Bytes) (at i : ℕ) → PastGaps s at i → i < length s → gap (getD s i 0) ≡ true → PastGaps s at (i + 1)
-gaps-more s at i p h g = record { low = omega (arith, p .low); is = λ begun. p .is begun ∙ run-at-goes (between begun) s i (between begun) h (between-blank (getD s i 0) g begun) }
+gaps-more s at i p h g = record { low = omega (arith, p .low); is = λ begun. p .is begun ∙ run-at-goes (between begun) s i (between begun) h (between-passes (getD s i 0) g begun) }
 
 -- THE LETTERS
 abbrev lettersOf : (first second : ℕ) → Mark
 lettersOf a b = record { caret = false; mass = 0; first = a; second = b }
 
 opens-one : (a : ℕ) → Opens (atOne false 0 a) (symOf false 0 a 0)
-opens-one a = record { ends = λ b g. one-blank b g a; counts = λ b d. one-other false 0 a b (digit-lower b d) ∙ count-or-digit _ b _ d }
+opens-one a = record { ends = λ b g. one-gap b g a; counts = λ b d. one-other false 0 a b (digit-lower b d) ∙ count-or-digit _ b _ d }
 
 opens-two : (x : Sym) → Opens (atTwo x) x
-opens-two x = record { ends = λ b g. two-blank b g x; counts = λ b d. two-is x b ∙ count-or-digit x b _ d }
+opens-two x = record { ends = λ b g. two-gap b g x; counts = λ b d. two-is x b ∙ count-or-digit x b _ d }
 
 module _ (s : Bytes) (at : ℕ) (room : at + 2 ≤ length s) (u : upper (getD s at 0) ≡ true) where
   first-run : (begun : Bool) → frun (between begun) (drop at s) ≡ frun (atOne false 0 (getD s at 0)) (drop (at + 1) s)
@@ -127,7 +126,7 @@ module _ (s : Bytes) (at : ℕ) where
       count-ends g = record {
         low = omega (arith, c .low);
         high = omega arith;
-        is = λ q x o. c .is q x o ∙ run-at (inCount x (i - at) v) s i (tells (counted x v) (between true)) h (count-blank (getD s i 0) g x (i - at) v);
+        is = λ q x o. c .is q x o ∙ run-at (inCount x (i - at) v) s i (tells (counted x v) (between true)) h (count-gap (getD s i 0) g x (i - at) v);
       }
 
 -- THE ENTRY

@@ -17,12 +17,12 @@ use Rattle.formula.specs.declared.entry.CountAt.the-variants as C
 use Rattle.formula.specs.declared.entry.QuickEntry.{QuickEntry}
 use Rattle.formula.specs.declared.entry.QuickEntry.the-variants as Q
 
--- a place behind the blanks from `at` on
+-- a place behind the gaps from `at` on
 pub record PastGaps (s : Bytes) (at to : ℕ) : Type 0 where
   pub low : at ≤ to
   pub is : (begun : Bool) → frun (between begun) (drop at s) ≡ frun (between begun) (drop to s)
 
--- a state behind a symbol: a blank ends the entry, a digit starts its count
+-- a state behind a symbol: a gap ends the entry, a digit starts its count
 pub record Opens (q : FState) (x : Sym) : Type 0 where
   pub ends : (b : ℕ) → gap b ≡ true → fstep q b ≡ tells (counted x 1) (between true)
   pub counts : (b : ℕ) → digit b ≡ true → fstep q b ≡ still (inCount x 1 (b - 48))
@@ -38,7 +38,7 @@ abbrev pub ShowsLetters : Bytes → (at : ℕ) → LettersAt → Type 0
 ShowsLetters s at (L.Letters mark to) = LettersAre s at mark to
 ShowsLetters s at L.Not = Unit {0}
 
--- behind a symbol a count stands at `at`, or none, and a blank before `next`
+-- behind a symbol a count stands at `at`, or none, and a gap before `next`
 pub record CountIs (s : Bytes) (at n next : ℕ) : Type 0 where
   pub low : at < next
   pub high : next ≤ length s
@@ -48,7 +48,7 @@ abbrev pub ShowsCount : Bytes → (at : ℕ) → CountAt → Type 0
 ShowsCount s at (C.Count n next) = CountIs s at n next
 ShowsCount s at C.Not = Unit {0}
 
--- an entry stands at `at`, a blank behind it, and what follows starts at `next`
+-- an entry stands at `at`, a gap behind it, and what follows starts at `next`
 pub record EntryIs (s : Bytes) (at : ℕ) (mark : Mark) (n next : ℕ) : Type 0 where
   pub low : at < next
   pub high : next ≤ length s

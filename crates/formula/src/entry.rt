@@ -1,6 +1,5 @@
-// Quick entries: entries of MOLFORM as programs write them, a symbol without `^`, its count, and a blank behind them, read in one pass with no machine's state:
-// document 01, "Rows", MOLFORM. What is not such an entry is answered Not and refused nowhere here: the machine judges it.
-ghost use Prim.Native.Nat.{_≤_};
+// Quick entries: entries of MOLFORM as programs write them, a symbol without `^`, its count, and a gap (a blank or a line feed) behind them, read in one pass with no
+// machine's state: document 01, "Rows", MOLFORM. What is not such an entry is answered Not and refused nowhere here: the machine judges it.
 ghost use Rattle.formula.specs.Entries.{PastGaps, ShowsLetters, ShowsCount, ShowsEntry};
 use alphabet::is_digit;
 use alphabet::is_gap;
@@ -14,19 +13,19 @@ pub enum LettersAt {
     Not,
 }
 
-// A count and the place behind its blank.
+// A count and the place behind its gap.
 pub enum CountAt {
     Count(u32, usize),
     Not,
 }
 
-// An entry's symbol and count, and the place behind its blank; or no quick entry.
+// An entry's symbol and count, and the place behind its gap; or no quick entry.
 pub enum QuickEntry {
     Entry(Mark, u32, usize),
     Not,
 }
 
-// The first place from `at` on where no blank stands.
+// The first place from `at` on where no gap stands.
 fn past_gaps(value: &[u8], at: usize) -> usize
     ensures { λ r. ⌜ PastGaps (now (value .entry)) at r ⌝ }
 {
@@ -74,7 +73,7 @@ fn letters_at(value: &[u8], at: usize) -> LettersAt
     LettersAt::Letters(mark, at + 1)
 }
 
-// Behind a symbol: "an optional count 1 to 9,999", here of at most 4 digits, and a blank. 1 where there is none.
+// Behind a symbol: "an optional count 1 to 9,999", here of at most 4 digits, and a gap. 1 where there is none.
 fn count_at(value: &[u8], at: usize) -> CountAt
     ensures { λ r. ⌜ ShowsCount (now (value .entry)) at r ⌝ }
 {
@@ -108,7 +107,7 @@ fn count_at(value: &[u8], at: usize) -> CountAt
     CountAt::Not
 }
 
-// The entry at a place between entries, the blanks before it passed over: "entries of a symbol and an optional count", here with a blank behind it.
+// The entry at a place between entries, the gaps before it passed over: "entries of a symbol and an optional count", here with a gap behind it.
 pub fn quick_entry(value: &[u8], at: usize) -> QuickEntry
     ensures { λ r. ⌜ ShowsEntry (now (value .entry)) at r ⌝ }
 {

@@ -1,12 +1,10 @@
 -- `formula::entry::count_at` meets its contract. Assumes nothing.
 use Prim.Native.Nat.{_-_}
-use mathlib.Core.Path.{_≡_, sym, _∙_}
-use mathlib.Core.Bool.{true}
+use mathlib.Core.Path.{sym, _∙_}
 use native.Mathlib.Omega.{arith}
 use borrow.Author.Needs.{needs}
 use borrow.Author.Tests.{not-false}
-use lib.ListN.{length, getD}
-use Rattle.format.specs.Rows.{digit}
+use lib.ListN.{length}
 use Rattle.format.proofs.ByteLaws.{digit-bounds}
 use Rattle.formula.proofs.EntryLaws.{Counting, count-none, count-starts, count-short, count-more, count-ends}
 use Rattle.formula.proofs.entry.count_at.Statement.{statement}
