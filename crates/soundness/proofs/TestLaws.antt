@@ -20,7 +20,7 @@ use borrow.Author.Needs.{sfits-of}
 use borrow.Author.Tests.{eqb-true, eqb-false, ne-eqb, lt-ltb, le-ltb, le-leb}
 use Rattle.lists.specs.Lists.{all, rowsFrom}
 use Rattle.lists.specs.Order.{ascends}
-use Rattle.lists.proofs.Bools.{torn, never, and-right-false}
+use Rattle.lists.proofs.Bools.{torn, never}
 use Rattle.lists.proofs.ListLaws.{all-cons, all-step, all-miss, all-end}
 use Rattle.lists.proofs.RegionLaws.{rows-length, rows-at}
 use Rattle.lists.proofs.SortLaws.{ascends-cons, ascends-one}

@@ -1,11 +1,9 @@
 // Tests of every number of a part of the table: document 01, "The structure table" ("unused ones are 0"), "Rows" (the values of charges and radicals).
 ghost use mathlib.Core.Path.{_≡_};
 ghost use mathlib.Core.Bool.{not, _&&_};
-ghost use Prim.Native.Nat.{_<_};
 ghost use lib.ListN.{length, getD};
 ghost use lib.IntN.{pos};
 ghost use Rattle.lists.specs.Lists.{all};
-ghost use Rattle.format.specs.Structure.{ranging};
 ghost use Rattle.cells.specs.Signs.{negative};
 ghost use Rattle.soundness.specs.Sounding.{unused, valueFine};
 use cells::cell;
