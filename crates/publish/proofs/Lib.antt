@@ -1,8 +1,2 @@
--- The laws of the table that is filled, file by file. Assumes nothing.
-pub mod FillLaws
-pub mod GuardLaws
-pub mod AtomLaws
-pub mod HeaderLaws
-pub mod RecordLaws
-pub mod AtomPartLaws
+-- The laws of the table that is filled. Assumes nothing.
 pub mod PublishLaws

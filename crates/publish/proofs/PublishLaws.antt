@@ -1,5 +1,5 @@
 -- The table put together from its regions, each lent in turn, and that it is the structure's: document 01, "The structure table". Assumes nothing.
-use Prim.Native.Nat.{ℕ, _+_, _-_, _≤_}
+use Prim.Native.Nat.{ℕ, _+_, _≤_}
 use mathlib.Core.Path.{_≡_, refl, sym, ap, _∙_}
 use mathlib.Core.Bool.{true, false}
 use mathlib.Core.List.{List, [], _∷_, _++_, map, append-assoc, append-nil}
@@ -21,11 +21,13 @@ use Rattle.gather.specs.Progress.{proseAt, Counted, Bounded, Listed, Holding}
 use Rattle.gather.specs.declared.progress.Progress.{Progress}
 use Rattle.gather.proofs.LaidLaws.{Sized, sized, fromOf, sizeOf, shownAs, list-seated, atoms-seated}
 use Rattle.numbering.specs.Renumbers.{Renumbers, Renumbering}
-use Rattle.publish.specs.Published.{bondOut, centreOut, pairOut, copied, valueOut, countsOut, headerOut, atomOut, gathered, atomsOut, spreadOut, markedOut, rowsOut, tableOut}
-use Rattle.publish.proofs.FillLaws.{signed-small, copied-length}
-use Rattle.publish.proofs.AtomLaws.{gathered-length}
-use Rattle.publish.proofs.AtomPartLaws.{atoms-part, charges-part, radicals-part}
-use Rattle.publish.proofs.RecordLaws.{bonds-part, centres-part, pairs-part}
+use Rattle.filling.specs.Filled.{bondOut, centreOut, pairOut, copied, valueOut, atomOut, gathered, atomsOut}
+use Rattle.filling.proofs.FillLaws.{signed-small, copied-length}
+use Rattle.filling.proofs.AtomLaws.{gathered-length}
+use Rattle.filling.proofs.AtomPartLaws.{atoms-part, charges-part, radicals-part}
+use Rattle.filling.proofs.RecordLaws.{bonds-part, centres-part, pairs-part}
+use Rattle.header.specs.Header.{countsOut, headerOut}
+use Rattle.publish.specs.Published.{spreadOut, markedOut, rowsOut, tableOut}
 
 -- PARTS ONE BEHIND THE OTHER, the rest of t behind them
 module _ (t : List ℤ) where

@@ -1,10 +1,5 @@
 // An accepted block's structure in the lent table: document 01, "The structure table" ("3,856 signed 32-bit numbers; unused ones are 0"). Every one of the 3,856
 // numbers is put there, whatever stood there before; those beyond stay.
-mod fill; // fill.rt: the regions of the table
-mod guard; // guard.rt: whether progress is one that a reading leaves
-mod header; // header.rt: the first sixteen numbers of the table
-mod records; // records.rt: the atoms of the table, charge and radical values
-
 ghost use mathlib.Core.Path.{_≡_};
 ghost use mathlib.Core.List.{_++_, map};
 ghost use Prim.Native.Nat.{ℕ, _≤_, _<_};
@@ -21,8 +16,8 @@ fn fill_spread(part: &mut [i32], p: Progress, charges: &[u32], radicals: &[u32])
     requires { ⌜ (length (now part) ≡ 128) × Counted p × (length (now charges) ≡ 64) × (length (now radicals) ≡ 64) ⌝ }
     ensures { λ _. ⌜ now (part .exit) ≡ spreadOut p (now (charges .entry)) (now (radicals .entry)) ⌝ }
 {
-    records::fill_values(&mut part[0..Table::CHARGES], charges, p.charges);
-    records::fill_values(&mut part[Table::CHARGES..128], radicals, p.radicals);
+    filling::records::fill_values(&mut part[0..Table::CHARGES], charges, p.charges);
+    filling::records::fill_values(&mut part[Table::CHARGES..128], radicals, p.radicals);
 }
 
 // The centres and the pairs.
@@ -30,8 +25,8 @@ fn fill_marked(part: &mut [i32], p: Progress, scratch: &[u32])
     requires { ⌜ (length (now part) ≡ 896) × Counted p × (length (now scratch) ≡ 2960) ⌝ }
     ensures { λ _. ⌜ now (part .exit) ≡ markedOut p (now (scratch .entry)) ⌝ }
 {
-    fill::fill_centres(&mut part[0..384], &scratch[2434..2690], p.centres);
-    fill::fill_pairs(&mut part[384..896], &scratch[2690..2946], p.pairs);
+    filling::keyed::fill_centres(&mut part[0..384], &scratch[2434..2690], p.centres);
+    filling::keyed::fill_pairs(&mut part[384..896], &scratch[2690..2946], p.pairs);
 }
 
 // All five lists of rows.
@@ -39,7 +34,7 @@ fn fill_rows(part: &mut [i32], p: Progress, scratch: &[u32], charges: &[u32], ra
     requires { ⌜ (length (now part) ≡ 2560) × Counted p × (length (now scratch) ≡ 2960) × (length (now charges) ≡ 64) × (length (now radicals) ≡ 64) ⌝ }
     ensures { λ _. ⌜ now (part .exit) ≡ rowsOut p (now (scratch .entry)) (now (charges .entry)) (now (radicals .entry)) ⌝ }
 {
-    fill::fill_bonds(&mut part[0..1536], &scratch[1410..2434], p.bonds);
+    filling::keyed::fill_bonds(&mut part[0..1536], &scratch[1410..2434], p.bonds);
     fill_spread(&mut part[1536..1664], p, charges, radicals);
     fill_marked(&mut part[1664..2560], p, scratch);
 }
@@ -59,7 +54,7 @@ fn fill_table(
     ensures { λ _. ⌜ now (table .exit) ≡ tableOut (now (block .entry)) p (now (scratch .entry)) (now («charge_order» .entry)) (now (charges .entry)) (now («radical_order» .entry)) (now (radicals .entry)) ++ drop 3856 (now (table .entry)) ⌝ }
 {
     header::fill_header(&mut table[0..Table::FIRST_ATOM], block, p);
-    records::fill_atoms(
+    filling::records::fill_atoms(
         &mut table[Table::FIRST_ATOM..Table::FIRST_BOND],
         &scratch[0..768],
         &scratch[768..1089],
@@ -126,7 +121,7 @@ pub fn publish(block: &[u8], p: Progress, scratch: &[u32], table: &mut [i32])
     if Table::BLOCK < block.len() {
         return;
     }
-    if !guard::is_bounded(block.len(), p) {
+    if !header::guard::is_bounded(block.len(), p) {
         return;
     }
     put_structure(block, p, scratch, table);

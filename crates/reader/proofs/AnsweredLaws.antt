@@ -19,7 +19,7 @@ use Rattle.format.proofs.CutLaws.{concat-cut}
 use Rattle.format.proofs.ReadingLaws.{StoppedAt, Unended, stopped, goes-at}
 use Rattle.gather.specs.Progress.{Bounded, Holding}
 use Rattle.gather.specs.declared.progress.Progress.{Progress}
-use Rattle.publish.proofs.FillLaws.{zeros-length}
+use Rattle.filling.proofs.FillLaws.{zeros-length}
 use Rattle.reader.specs.Lines.{rulesOf, Ruled}
 use Rattle.reader.specs.Judging.{Stands, ShowsJudged}
 use Rattle.reader.specs.declared.rules.Rules.{Rules as Given}

@@ -1,4 +1,5 @@
 -- `publish::fill_marked` meets its contract. Assumes nothing.
+use native.Mathlib.Omega.{arith}
 use Rattle.publish.proofs.PublishLaws.{marked-whole}
 use borrow.Author.Needs.{needs}
 use Rattle.publish.proofs.fill_marked.Statement.{statement}
@@ -50,7 +51,7 @@ same-length : tie.Need-same-length
 same-length c = search needs
 
 returns : tie.Need-returns
-returns c = marked-whole (c .before .before .before .before .before .before .before .before .before .args .p) (c .before .before .before .before .before .before .before .before .before .pre .1) (c .before .before .before .before .before .before .before .before .before .args .part .now) _ _ (c .before .before .before .before .before .before .before .before .before .args .scratch .now) (c .before .before .before .before .before .before .before .before .before .pre .0) (c .before .before .before .before .before .fill-centres .ensures) (c .before .fill-pairs .ensures)
+returns c = marked-whole (c .before .before .before .before .before .before .before .before .before .args .p) (c .before .before .before .before .before .before .before .before .before .pre .1) (c .before .before .before .before .before .before .before .before .before .args .part .now) _ _ (c .before .before .before .before .before .before .before .before .before .args .scratch .now) (c .before .before .before .before .before .before .before .before .before .pre .0) (c .before .before .before .before .before .fill-centres .ensures .0 (omega arith, omega arith, omega arith)) (c .before .fill-pairs .ensures .0 (omega arith, omega arith, omega arith))
 
 pub fill-marked-spec : {M : Type 1} → statement M
 fill-marked-spec =

@@ -1,4 +1,5 @@
 -- `publish::fill_rows` meets its contract. Assumes nothing.
+use native.Mathlib.Omega.{arith}
 use Rattle.publish.proofs.PublishLaws.{rows-whole}
 use borrow.Author.Needs.{needs}
 use Rattle.publish.proofs.fill_rows.Statement.{statement}
@@ -53,7 +54,7 @@ same-length : tie.Need-same-length
 same-length c = search needs
 
 returns : tie.Need-returns
-returns c = rows-whole (c .before .before .before .before .before .before .before .before .before .before .before .before .before .args .p) (c .before .before .before .before .before .before .before .before .before .before .before .before .before .pre .1) (c .before .before .before .before .before .before .before .before .before .before .before .before .before .args .part .now) _ _ _ (c .before .before .before .before .before .before .before .before .before .before .before .before .before .args .scratch .now) _ _ (c .before .before .before .before .before .before .before .before .before .before .before .before .before .pre .0) (c .before .before .before .before .before .before .before .fill-bonds .ensures) (c .before .before .before .before .fill-spread .ensures) (c .before .fill-marked .ensures)
+returns c = rows-whole (c .before .before .before .before .before .before .before .before .before .before .before .before .before .args .p) (c .before .before .before .before .before .before .before .before .before .before .before .before .before .pre .1) (c .before .before .before .before .before .before .before .before .before .before .before .before .before .args .part .now) _ _ _ (c .before .before .before .before .before .before .before .before .before .before .before .before .before .args .scratch .now) _ _ (c .before .before .before .before .before .before .before .before .before .before .before .before .before .pre .0) (c .before .before .before .before .before .before .before .fill-bonds .ensures .0 (omega arith, omega arith, omega arith)) (c .before .before .before .before .fill-spread .ensures) (c .before .fill-marked .ensures)
 
 pub fill-rows-spec : {M : Type 1} → statement M
 fill-rows-spec =

@@ -1,4 +1,5 @@
 -- `publish::fill_spread` meets its contract. Assumes nothing.
+use native.Mathlib.Omega.{arith}
 use Rattle.publish.proofs.PublishLaws.{spread-whole}
 use borrow.Author.Needs.{needs}
 use Rattle.publish.proofs.fill_spread.Statement.{statement}
@@ -32,7 +33,7 @@ same-length : tie.Need-same-length
 same-length c = search needs
 
 returns : tie.Need-returns
-returns c = spread-whole (c .before .before .before .before .before .before .before .before .args .p) (c .before .before .before .before .before .before .before .before .pre .1) (c .before .before .before .before .before .before .before .before .args .part .now) _ _ _ _ (c .before .before .before .before .before .before .before .before .pre .0) (c .before .before .before .before .fill-values .ensures) (c .before .fill-values2 .ensures)
+returns c = spread-whole (c .before .before .before .before .before .before .before .before .args .p) (c .before .before .before .before .before .before .before .before .pre .1) (c .before .before .before .before .before .before .before .before .args .part .now) _ _ _ _ (c .before .before .before .before .before .before .before .before .pre .0) (c .before .before .before .before .fill-values .ensures .0 (omega arith, omega arith, omega arith)) (c .before .fill-values2 .ensures .0 (omega arith, omega arith, omega arith))
 
 pub fill-spread-spec : {M : Type 1} → statement M
 fill-spread-spec =

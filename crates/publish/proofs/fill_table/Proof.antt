@@ -1,4 +1,5 @@
 -- `publish::fill_table` meets its contract. Assumes nothing.
+use native.Mathlib.Omega.{arith}
 use Rattle.publish.proofs.PublishLaws.{table-whole}
 use borrow.Author.Needs.{needs}
 use Rattle.publish.proofs.fill_table.Statement.{statement}
@@ -71,7 +72,7 @@ same-length : tie.Need-same-length
 same-length c = search needs
 
 returns : tie.Need-returns
-returns c = table-whole (c .before .before .before .before .before .before .before .before .before .before .before .before .before .before .before .before .before .before .args .p) (c .before .before .before .before .before .before .before .before .before .before .before .before .before .before .before .before .before .before .pre .2 .counted) (c .before .before .before .before .before .before .before .before .before .before .before .before .before .before .before .before .before .before .args .table .now) _ _ _ _ (c .before .before .before .before .before .before .before .before .before .before .before .before .before .before .before .before .before .before .args .scratch .now) _ _ _ _ (c .before .before .before .before .before .before .before .before .before .before .fill-header .ensures) (c .before .before .before .before .fill-atoms .ensures) (c .before .fill-rows .ensures)
+returns c = table-whole (c .before .before .before .before .before .before .before .before .before .before .before .before .before .before .before .before .before .before .args .p) (c .before .before .before .before .before .before .before .before .before .before .before .before .before .before .before .before .before .before .pre .2 .counted) (c .before .before .before .before .before .before .before .before .before .before .before .before .before .before .before .before .before .before .args .table .now) _ _ _ _ (c .before .before .before .before .before .before .before .before .before .before .before .before .before .before .before .before .before .before .args .scratch .now) _ _ _ _ (c .before .before .before .before .before .before .before .before .before .before .fill-header .ensures .0 (omega arith, omega arith, c .before .before .before .before .before .before .before .before .before .before .before .before .before .before .before .before .before .before .pre .2)) (c .before .before .before .before .fill-atoms .ensures .0 (omega arith, omega arith, omega arith, omega arith, omega arith)) (c .before .fill-rows .ensures)
 
 pub fill-table-spec : {M : Type 1} → statement M
 fill-table-spec =

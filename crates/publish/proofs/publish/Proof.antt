@@ -2,7 +2,7 @@
 use mathlib.Core.Path.{refl}
 use native.Mathlib.Omega.{arith}
 use Rattle.gather.specs.Progress.{Bounded}
-use Rattle.publish.proofs.GuardLaws.{tells-no, tells-yes}
+use Rattle.header.proofs.GuardLaws.{tells-no, tells-yes}
 use borrow.Author.Needs.{needs}
 use Rattle.publish.proofs.publish.Statement.{statement}
 use Rattle.publish.proofs.publish.Tie as tie

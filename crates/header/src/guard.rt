@@ -1,0 +1,62 @@
+// Whether progress is one that a reading leaves: its counts within their limits, its parts within the block.
+ghost use Rattle.gather.specs.Progress.{Counted, Within, Bounded};
+ghost use Rattle.header.specs.Header.{Tells};
+use gather::progress::Part;
+use gather::progress::Progress;
+
+// Whether a part lies in a block of so many bytes.
+fn lies_in(size: usize, part: Part) -> bool
+    ensures { λ r. ⌜ Tells r (Within size part) ⌝ }
+{
+    if part.to < part.from {
+        return false;
+    }
+    part.to <= size
+}
+
+// Whether each list has no more rows than its limit.
+fn is_counted(p: Progress) -> bool
+    ensures { λ r. ⌜ Tells r (Counted p) ⌝ }
+{
+    if 256 < p.atoms {
+        return false;
+    }
+    if 512 < p.bonds {
+        return false;
+    }
+    if 64 < p.charges {
+        return false;
+    }
+    if 64 < p.radicals {
+        return false;
+    }
+    if 128 < p.centres {
+        return false;
+    }
+    p.pairs <= 128
+}
+
+// Whether all of it is: the counts, the code, the id and the parts.
+pub fn is_bounded(size: usize, p: Progress) -> bool
+    ensures { λ r. ⌜ Tells r (Bounded size p) ⌝ }
+{
+    if !is_counted(p) {
+        return false;
+    }
+    if 13 < p.running {
+        return false;
+    }
+    if 999999 < p.id {
+        return false;
+    }
+    if !lies_in(size, p.title) {
+        return false;
+    }
+    if !lies_in(size, p.origin) {
+        return false;
+    }
+    if !lies_in(size, p.owner) {
+        return false;
+    }
+    lies_in(size, p.formula)
+}
