@@ -1,15 +1,17 @@
 -- A line of a list, by its label's code: document 01, "Rows". Assumes nothing.
-use Prim.Native.Nat.{ℕ}
-use mathlib.Core.Path.{_≡_, ap}
+use Prim.Native.Nat.{ℕ, _≤_}
+use mathlib.Core.Path.{_≡_, refl, sym, ap}
 use mathlib.Core.List.{List}
+use native.Mathlib.Omega.{arith}
 use Rattle.format.specs.Bytes.{Bytes}
-use Rattle.format.specs.Labels.{Bonds, Charges, Radicals, Centres, Pairs, label, known}
+use Rattle.format.specs.Labels.{ListOf, Bonds, Charges, Radicals, Centres, Pairs, label, known}
 use Rattle.format.specs.Reading.{State, atomLine, rowLine}
 use Rattle.format.specs.Reading.{Turn as Turned}
 use Rattle.labels.specs.ShownLines.{byCode}
-use Rattle.gather.specs.Progress.{CountedTurn}
-use Rattle.gather.specs.Shows.{Shows, ShowsTurn}
-use Rattle.gather.specs.ListLine.{listLine}
+use Rattle.sorted.specs.declared.after.RowAfter.{RowAfter}
+use Rattle.gather.specs.Progress.{withCount}
+use Rattle.gather.specs.Shows.{ShowsTurn}
+use Rattle.gather.specs.ListLine.{listLine, turnOf, Gathers}
 use Rattle.gather.specs.declared.progress.Progress.{Progress}
 use Rattle.gather.specs.declared.progress.Turn.{Turn}
 
@@ -17,37 +19,36 @@ use Rattle.gather.specs.declared.progress.Turn.{Turn}
 pub turn-shown : (k : ℕ) (block : Bytes) (at : ℕ) (r : Turn) (t : List ℕ) (turned other : Turned) → turned ≡ other → ShowsTurn k block at r t other → ShowsTurn k block at r t turned
 turn-shown k block at r t turned other e h = rw e h
 
--- so too all that a list's line promises
-pub list-told : (k : ℕ) (p : Progress) (r : Turn) (before after : List ℕ) (turned other : State → Turned) → ((st : State) → turned st ≡ other st)
-    → CountedTurn p r × ((block : Bytes) (at : ℕ) (st : State) → Shows k block at p before st → ShowsTurn k block at r after (other st))
-    → CountedTurn p r × ((block : Bytes) (at : ℕ) (st : State) → Shows k block at p before st → ShowsTurn k block at r after (turned st))
-list-told k p r before after turned other e h = (h .0, λ block at st s. turn-shown k block at r after (turned st) (other st) (e st) (h .1 block at st s))
-
 -- A LINE OF A LIST, by its label's code
-module _ (code k : ℕ) (st : State) (fs : List Bytes) where
-  held-as : (c : ℕ) → code ≡ c → listLine code k st fs ≡ listLine c k st fs
-  held-as c e = ap (λ (n : ℕ). listLine n k st fs) e
+abbrev pub codeOf : ListOf → ℕ
+codeOf Bonds = 7
+codeOf Charges = 8
+codeOf Radicals = 9
+codeOf Centres = 10
+codeOf Pairs = 11
 
-  pub list-atoms : code ≡ 6 → listLine code k st fs ≡ atomLine k st fs
+module _ (k : ℕ) (st : State) (fs : List Bytes) where
+  pub list-atoms : listLine 6 k st fs ≡ atomLine k st fs
   unfolding byCode known label
-  list-atoms e = held-as 6 e
+  list-atoms = refl
 
-  pub list-bonds : code ≡ 7 → listLine code k st fs ≡ rowLine Bonds st fs
+  pub list-rows : (l : ListOf) → listLine (codeOf l) k st fs ≡ rowLine l st fs
   unfolding byCode known label
-  list-bonds e = held-as 7 e
+  list-rows Bonds = refl
+  list-rows Charges = refl
+  list-rows Radicals = refl
+  list-rows Centres = refl
+  list-rows Pairs = refl
 
-  pub list-charges : code ≡ 8 → listLine code k st fs ≡ rowLine Charges st fs
-  unfolding byCode known label
-  list-charges e = held-as 8 e
+-- the last of a match over the lists' codes
+pub last-code : (code : ℕ) → ((((Unit {0} × (code ≡ 6 → ⊥)) × (code ≡ 7 → ⊥)) × (code ≡ 8 → ⊥)) × (code ≡ 9 → ⊥)) × (code ≡ 10 → ⊥) → 6 ≤ code → code ≤ 11 → code ≡ 11
+last-code code rest six eleven = omega (arith, rest .0 .0 .0 .0 .1, rest .0 .0 .0 .1, rest .0 .0 .1, rest .0 .1, rest .1)
 
-  pub list-radicals : code ≡ 9 → listLine code k st fs ≡ rowLine Radicals st fs
-  unfolding byCode known label
-  list-radicals e = held-as 9 e
+-- the count put under a code that is a list's own
+pub count-as : (code own c : ℕ) (p : Progress) → code ≡ own → withCount own c p ≡ withCount code c p
+count-as code own c p e = ap (λ (n : ℕ). withCount n c p) (sym e)
 
-  pub list-centres : code ≡ 10 → listLine code k st fs ≡ rowLine Centres st fs
-  unfolding byCode known label
-  list-centres e = held-as 10 e
-
-  pub list-pairs : code ≡ 11 → listLine code k st fs ≡ rowLine Pairs st fs
-  unfolding byCode known label
-  list-pairs e = held-as 11 e
+-- what the list's own line promises, so does the turn that is made of its answer
+pub turn-gathers : (code k : ℕ) (fs : List Bytes) (p : Progress) (before after : List ℕ) (answer : RowAfter) (r : Turn) → (6 ≤ code → code ≤ 11 → r ≡ turnOf code p answer)
+    → Gathers code k fs p before after (turnOf code p answer) → Gathers code k fs p before after r
+turn-gathers code k fs p before after answer r is told c low six eleven = rw (is six eleven) (told c low six eleven)

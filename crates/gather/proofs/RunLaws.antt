@@ -27,10 +27,10 @@ use Rattle.elements.specs.declared.Isotope.{Isotope as Answered}
 use Rattle.quick.specs.Quick.{lineAt, OneLine, BondIs, AtomIs}
 use Rattle.quick.proofs.StepLaws.{row-step, atom-step}
 use Rattle.sorted.specs.Regions.{topOf}
-use Rattle.gather.specs.Progress.{laid, Counted}
+use Rattle.gather.specs.Progress.{laid, withCount, Counted}
 use Rattle.gather.specs.Shows.{Shows, ShowsTurn}
 use Rattle.sorted.specs.Keyed.{RowShows, LineShows}
-use Rattle.gather.specs.Runs.{Reached, atomsCounted, bondsCounted, AtomsRan, BondsRan, RowsRan}
+use Rattle.gather.specs.Runs.{Reached, AtomsRan, BondsRan, RowsRan}
 use Rattle.gather.specs.declared.progress.Progress.{Progress}
 use Rattle.gather.specs.declared.progress.Turn.the-variants.{Go}
 use Rattle.sorted.specs.declared.after.RowAfter.{RowAfter}
@@ -94,8 +94,8 @@ module _ (k : ℕ) (block : Bytes) (at atoms place count : ℕ) (t₀ t : List �
   joins = shows-joined k count (lineAt block place next) (take 768 (drop 0 t)) (row .line .inked) region (A.Values number mark hydrogens) answered number mark hydrogens refl light (omega (arith, row .few)) follows i j found room put
 
   module _ (u : Rules) (p : Progress) (st : State) (e : u .elements ≡ k) (b : 1 ≤ k) (c : Counted p) (running : st .running ≡ Atoms) (seen : isNil (st .seen) ≡ false) (h : Shows k block at p t₀ st)
-      (r : Reached u k block at place (atomsCounted count p) t st) where
-    counted : Counted (atomsCounted count p)
+      (r : Reached u k block at place (withCount 6 count p) t st) where
+    counted : Counted (withCount 6 count p)
     counted = record { atoms = omega arith; bonds = c .bonds; charges = c .charges; radicals = c .radicals; centres = c .centres; pairs = c .pairs }
 
     atom-line-is : lineStep u (r .state) (lineAt block place next) ≡ atomLine k (r .state) (fields (lineAt block place next))
@@ -103,11 +103,11 @@ module _ (k : ℕ) (block : Bytes) (at atoms place count : ℕ) (t₀ t : List �
         atom-step u (r .state) block place next (row .line) (ap isNil (r .seen) ∙ seen) (r .shows .running ∙ sym (h .running) ∙ running)
         ∙ ap (λ (n : ℕ). atomLine n (r .state) (fields (lineAt block place next))) e
 
-    atom-on : Reached u k block at next (atomsCounted (count + 1) p) (putMid 0 768 t region) st
+    atom-on : Reached u k block at next (withCount 6 (count + 1) p) (putMid 0 768 t region) st
     atom-on =
-        one-more u k block at place next (atomsCounted count p) (atomsCounted (count + 1) p) t (putMid 0 768 t region) st r (row .line)
+        one-more u k block at place next (withCount 6 count p) (withCount 6 (count + 1) p) t (putMid 0 768 t region) st r (row .line)
         (atomLine k (r .state) (fields (lineAt block place next))) atom-line-is (atoms-keeps (r .state) k (fields (lineAt block place next)))
-        (atoms-turn (atomsCounted count p) t region (fields (lineAt block place next)) (Kept (count + 1)) k joins b block place (r .state) (r .shows) counted)
+        (atoms-turn (withCount 6 count p) t region (fields (lineAt block place next)) (Kept (count + 1)) k joins b block place (r .state) (r .shows) counted)
 
   pub atoms-more : AtomsRan k block at atoms t₀ (putMid 0 768 t region) (record { place = next; count = count + 1 })
   atoms-more = record {
@@ -136,18 +136,18 @@ module _ (block : Bytes) (at atoms bonds place count : ℕ) (t₀ t : List ℕ) 
   gathers = bond-shows atoms count (lineAt block place next) (take 1024 (drop 1410 t)) region (row .line .inked) (B.Values first second kind) told first second kind refl (Kept more) (rw joined at shown)
 
   module _ (u : Rules) (k : ℕ) (p : Progress) (st : State) (c : Counted p) (a : p .atoms ≡ atoms) (running : st .running ≡ Rows Bonds) (seen : isNil (st .seen) ≡ false) (h : Shows k block at p t₀ st)
-      (few : count ≤ 512) (r : Reached u k block at place (bondsCounted count p) t st) where
-    counts : Counted (bondsCounted count p)
+      (few : count ≤ 512) (r : Reached u k block at place (withCount 7 count p) t st) where
+    counts : Counted (withCount 7 count p)
     counts = record { atoms = c .atoms; bonds = few; charges = c .charges; radicals = c .radicals; centres = c .centres; pairs = c .pairs }
 
     bond-line-is : lineStep u (r .state) (lineAt block place next) ≡ rowLine Bonds (r .state) (fields (lineAt block place next))
     bond-line-is = row-step u (r .state) block place next (row .line) (ap isNil (r .seen) ∙ seen) Bonds (r .shows .running ∙ sym (h .running) ∙ running)
 
-    bond-on : Reached u k block at next (bondsCounted more p) (putMid 1410 1024 t region) st
+    bond-on : Reached u k block at next (withCount 7 more p) (putMid 1410 1024 t region) st
     bond-on =
-        one-more u k block at place next (bondsCounted count p) (bondsCounted more p) t (putMid 1410 1024 t region) st r (row .line)
+        one-more u k block at place next (withCount 7 count p) (withCount 7 more p) t (putMid 1410 1024 t region) st r (row .line)
         (rowLine Bonds (r .state) (fields (lineAt block place next))) bond-line-is (rows-keeps (r .state) Bonds (fields (lineAt block place next)))
-        (rows-turn Bonds (bondsCounted count p) t region (fields (lineAt block place next)) (Kept more)
+        (rows-turn Bonds (withCount 7 count p) t region (fields (lineAt block place next)) (Kept more)
         (subst (λ (n : ℕ). LineShows Bonds n count (lineAt block place next) (take 1024 (drop 1410 t)) region (Kept more)) (sym a) gathers) k block place (r .state) (r .shows) counts)
 
   pub bonds-more : count ≤ 512 → more ≤ 512 → BondsRan block at atoms bonds t₀ (putMid 1410 1024 t region) (record { place = next; count = more })
@@ -190,7 +190,7 @@ module _ (k : ℕ) (block : Bytes) (at : ℕ) (p : Progress) (t : List ℕ) wher
     held : (code : ℕ) (h : Holds) → p .running ≡ code → byCode code known .holds ≡ h → (st : State) → Shows k block at p t st → st .running ≡ h
     held code h e f st shows = shows .running ∙ ap (λ (n : ℕ). byCode n known .holds) e ∙ f
 
-    pub run-atoms : p .running ≡ 6 → AtomsRan k block at (p .atoms) t s r → RowsRan k block at p t s (record { place = r .place; known = atomsCounted (r .count) p })
+    pub run-atoms : p .running ≡ 6 → AtomsRan k block at (p .atoms) t s r → RowsRan k block at p t s (record { place = r .place; known = withCount 6 (r .count) p })
     unfolding byCode known label
     run-atoms six ran = record {
       low = ran .low;
@@ -200,7 +200,7 @@ module _ (k : ℕ) (block : Bytes) (at : ℕ) (p : Progress) (t : List ℕ) wher
       goes = λ u st e b c h. ran .goes u p st e b c refl (held 6 Atoms six refl st h) (seen-some (st .seen) (p .top) (h .top) begun) h;
     }
 
-    pub run-bonds : p .running ≡ 7 → BondsRan block at (p .atoms) (p .bonds) t s r → RowsRan k block at p t s (record { place = r .place; known = bondsCounted (r .count) p })
+    pub run-bonds : p .running ≡ 7 → BondsRan block at (p .atoms) (p .bonds) t s r → RowsRan k block at p t s (record { place = r .place; known = withCount 7 (r .count) p })
     unfolding byCode known label
     run-bonds seven ran = record {
       low = ran .low;

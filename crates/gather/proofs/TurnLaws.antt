@@ -19,36 +19,20 @@ use Rattle.format.specs.Reading.{State, withRows, withAtoms, rowLine, atomLine}
 use Rattle.sorted.specs.Steps.{After, kept, refused, rowStep, atomStep}
 use Rattle.sorted.specs.Regions.{Fits, kindsRegion}
 use Rattle.sorted.specs.Shown.{ShowsAfter}
+use Rattle.sorted.specs.Keyed.{KeptWithin}
 use Rattle.sorted.specs.declared.after.RowAfter.{RowAfter}
 use Rattle.sorted.specs.declared.after.RowAfter.the-variants as R
 use Rattle.sorted.proofs.FitLaws.{fits-kept, fits-more}
-use Rattle.gather.specs.Progress.{laid, altered, Counted, CountedTurn, Listed, countOf}
+use Rattle.gather.specs.Progress.{laid, withCount, Counted, CountedTurn, Listed, countOf}
 use Rattle.gather.specs.Shows.{Shows, ShowsTurn}
+use Rattle.gather.specs.ListLine.{listLine, turnOf, Gathers}
 use Rattle.gather.specs.declared.progress.Progress.{Progress}
-use Rattle.gather.specs.declared.progress.Turn.{Turn}
-use Rattle.gather.specs.declared.progress.Turn.the-variants.{Go, Stop}
 use Rattle.gather.proofs.StepLaws.{withKept, withListed, row-line, atom-line}
 use Rattle.gather.proofs.LaidLaws.{sized, fromOf, sizeOf, shownAs, rowsPut, atomsPut, list-seated, atoms-seated}
+use Rattle.gather.proofs.ListLineLaws.{codeOf, list-atoms, list-rows}
 use Rattle.gather.proofs.KindLaws.{AtomAdded, atom-kept}
 
 -- THE PROGRESS WITH ANOTHER COUNT
-abbrev pub withCount : ListOf → ℕ → Progress → Progress
-withCount l c p = record {
-  running = p .running;
-  top = p .top;
-  title = p .title;
-  origin = p .origin;
-  owner = p .owner;
-  formula = p .formula;
-  atoms = p .atoms;
-  bonds = elim l [ Bonds ↦ c | Charges ↦ p .bonds | Radicals ↦ p .bonds | Centres ↦ p .bonds | Pairs ↦ p .bonds ];
-  charges = elim l [ Bonds ↦ p .charges | Charges ↦ c | Radicals ↦ p .charges | Centres ↦ p .charges | Pairs ↦ p .charges ];
-  radicals = elim l [ Bonds ↦ p .radicals | Charges ↦ p .radicals | Radicals ↦ c | Centres ↦ p .radicals | Pairs ↦ p .radicals ];
-  centres = elim l [ Bonds ↦ p .centres | Charges ↦ p .centres | Radicals ↦ p .centres | Centres ↦ c | Pairs ↦ p .centres ];
-  pairs = elim l [ Bonds ↦ p .pairs | Charges ↦ p .pairs | Radicals ↦ p .pairs | Centres ↦ p .pairs | Pairs ↦ c ];
-  id = p .id;
-}
-
 abbrev pub limitOf : ListOf → ℕ
 limitOf Bonds = 512
 limitOf Charges = 64
@@ -56,7 +40,7 @@ limitOf Radicals = 64
 limitOf Centres = 128
 limitOf Pairs = 128
 
-counted-kept : (l : ListOf) (c : ℕ) (p : Progress) → Counted p → c ≤ limitOf l → Counted (withCount l c p)
+counted-kept : (l : ListOf) (c : ℕ) (p : Progress) → Counted p → c ≤ limitOf l → Counted (withCount (codeOf l) c p)
 counted-kept Bonds c p h k = record { atoms = h .atoms; bonds = k; charges = h .charges; radicals = h .radicals; centres = h .centres; pairs = h .pairs }
 counted-kept Charges c p h k = record { atoms = h .atoms; bonds = h .bonds; charges = k; radicals = h .radicals; centres = h .centres; pairs = h .pairs }
 counted-kept Radicals c p h k = record { atoms = h .atoms; bonds = h .bonds; charges = h .charges; radicals = k; centres = h .centres; pairs = h .pairs }
@@ -65,7 +49,7 @@ counted-kept Pairs c p h k = record { atoms = h .atoms; bonds = h .bonds; charge
 
 -- a fact of each list with its count, where one list has other rows
 rows-kept : (P : ListOf → List Row → ℕ → Type 0) (l : ListOf) (rs : List Row) (c : ℕ) (s : Structure) (p : Progress) → P l rs c → ((m : ListOf) → P m (rowsOf m s) (countOf m p))
-    → (m : ListOf) → P m (rowsOf m (withRows l rs s)) (countOf m (withCount l c p))
+    → (m : ListOf) → P m (rowsOf m (withRows l rs s)) (countOf m (withCount (codeOf l) c p))
 unfolding rowsOf withRows
 rows-kept P Bonds rs c s p new old m = elim m [ Bonds ↦ new | Charges ↦ old Charges | Radicals ↦ old Radicals | Centres ↦ old Centres | Pairs ↦ old Pairs ]
 rows-kept P Charges rs c s p new old m = elim m [ Bonds ↦ old Bonds | Charges ↦ new | Radicals ↦ old Radicals | Centres ↦ old Centres | Pairs ↦ old Pairs ]
@@ -73,39 +57,24 @@ rows-kept P Radicals rs c s p new old m = elim m [ Bonds ↦ old Bonds | Charges
 rows-kept P Centres rs c s p new old m = elim m [ Bonds ↦ old Bonds | Charges ↦ old Charges | Radicals ↦ old Radicals | Centres ↦ new | Pairs ↦ old Pairs ]
 rows-kept P Pairs rs c s p new old m = elim m [ Bonds ↦ old Bonds | Charges ↦ old Charges | Radicals ↦ old Radicals | Centres ↦ old Centres | Pairs ↦ new ]
 
--- the other parts of the structure stay
-rows-atoms : (l : ListOf) (rs : List Row) (s : Structure) → withRows l rs s .atoms ≡ s .atoms
+-- the other parts of the structure stay, and the count of atoms
+rows-alone : (l : ListOf) (rs : List Row) (s : Structure) (c : ℕ) (p : Progress) → (withRows l rs s .atoms ≡ s .atoms) × (withRows l rs s .id ≡ s .id) × (withCount (codeOf l) c p .atoms ≡ p .atoms)
 unfolding withRows
-rows-atoms Bonds rs s = refl
-rows-atoms Charges rs s = refl
-rows-atoms Radicals rs s = refl
-rows-atoms Centres rs s = refl
-rows-atoms Pairs rs s = refl
+rows-alone Bonds rs s c p = (refl, refl, refl)
+rows-alone Charges rs s c p = (refl, refl, refl)
+rows-alone Radicals rs s c p = (refl, refl, refl)
+rows-alone Centres rs s c p = (refl, refl, refl)
+rows-alone Pairs rs s c p = (refl, refl, refl)
 
-rows-id : (l : ListOf) (rs : List Row) (s : Structure) → withRows l rs s .id ≡ s .id
-unfolding withRows
-rows-id Bonds rs s = refl
-rows-id Charges rs s = refl
-rows-id Radicals rs s = refl
-rows-id Centres rs s = refl
-rows-id Pairs rs s = refl
-
-rows-listed : (l : ListOf) (rs : List Row) (p : Progress) (s : Structure) → Listed p s → Fits l (p .atoms) rs → Listed (withCount l (length rs) p) (withRows l rs s)
-rows-listed l rs p s h f = record {
-  atoms = ap length (rows-atoms l rs s) ∙ h .atoms;
-  counts = rows-kept (λ m ms n. length ms ≡ n) l rs (length rs) s p refl (h .counts);
-  fits = rows-kept (λ m ms n. Fits m (p .atoms) ms) l rs (length rs) s p f (h .fits);
-  id = rows-id l rs s ∙ h .id;
-}
-
--- ONE OF THE FIVE LISTS
-abbrev pub afterTurn : ListOf → Progress → RowAfter → Turn
-afterTurn l p (R.Kept c) = Go (withCount l c p)
-afterTurn l p (R.Stop n) = Stop n
-
-counted-turn : (l : ListOf) (p : Progress) (q : RowAfter) → Counted p → ((c : ℕ) → q ≡ R.Kept c → c ≤ limitOf l) → CountedTurn p (afterTurn l p q)
-counted-turn l p (R.Kept c) h f = (counted-kept l c p h (f c refl), refl)
-counted-turn l p (R.Stop n) h f = tt
+rows-listed : (l : ListOf) (rs : List Row) (p : Progress) (s : Structure) → Listed p s → Fits l (p .atoms) rs → Listed (withCount (codeOf l) (length rs) p) (withRows l rs s)
+rows-listed l rs p s h f =
+    let o = rows-alone l rs s (length rs) p in
+    record {
+      atoms = ap length (o .0) ∙ h .atoms ∙ sym (o .2);
+      counts = rows-kept (λ m ms n. length ms ≡ n) l rs (length rs) s p refl (h .counts);
+      fits = rw (o .2) (rows-kept (λ m ms n. Fits m (p .atoms) ms) l rs (length rs) s p f (h .fits));
+      id = o .1 ∙ h .id;
+    }
 
 -- a part of so many numbers put back leaves as many
 pub put-long : (from size : ℕ) (t region : List ℕ) → length t ≡ 2960 → from + size ≤ 2960 → length region ≡ size → length (putMid from size t region) ≡ 2960
@@ -114,6 +83,27 @@ put-long from size t region h k e = same-len-mid from size t region (e ∙ sym (
 pub part-long : (from size : ℕ) (t : List ℕ) → length t ≡ 2960 → from + size ≤ 2960 → length (take size (drop from t)) ≡ size
 part-long from size t h k = length-take-le size (drop from t) (simp length-drop (omega arith))
 
+-- what a list's own line says, its part of the scratch being as long as it should: the part stays so, its count is within the limit, and what it shows
+abbrev pub Told : (size limit : ℕ) → Progress → (part region : List ℕ) → RowAfter → Type 0 → Type 0
+Told size limit p part region r Shown = length part ≡ size → (length region ≡ size) × (Counted p → KeptWithin limit r × Shown)
+
+counted-turn : (code limit : ℕ) (p : Progress) (r : RowAfter) → ((c : ℕ) → c ≤ limit → Counted (withCount code c p)) → KeptWithin limit r → CountedTurn p (turnOf code p r)
+counted-turn code limit p (R.Kept c) keeps f = (keeps c (f c refl), refl)
+counted-turn code limit p (R.Stop n) keeps f = tt
+
+-- all that a line promises in the whole scratch, from that; `own` is the list's code
+told-gathers : (code k : ℕ) (fs : List Bytes) (p : Progress) (t region : List ℕ) (r : RowAfter) (own from size limit : ℕ) (Shown : Type 0) → from + size ≤ 2960
+    → ((c : ℕ) → Counted p → c ≤ limit → Counted (withCount own c p))
+    → (Counted p → 1 ≤ k → Shown → (block : Bytes) (at : ℕ) (st : State) → Shows k block at p t st → ShowsTurn k block at (turnOf own p r) (putMid from size t region) (listLine own k st fs))
+    → (6 ≤ code → code ≤ 11 → code ≡ own) → Told size limit p (take size (drop from t)) region r Shown → length t ≡ 2960
+    → (length (putMid from size t region) ≡ 2960) × Gathers code k fs p t (putMid from size t region) (turnOf code p r)
+told-gathers code k fs p t region r own from size limit Shown room keeps shows is told long =
+    let w = told (part-long from size t long room) in (
+      put-long from size t region long room (w .0),
+      λ c low six eleven. rw (is six eleven) (counted-turn own limit p r (λ n. keeps n c) (w .1 c .0), shows c low (w .1 c .1)),
+    )
+
+-- ONE OF THE FIVE LISTS
 region-within : (l : ListOf) → fromOf l + sizeOf l ≤ 2960
 region-within Bonds = omega arith
 region-within Charges = omega arith
@@ -121,10 +111,13 @@ region-within Radicals = omega arith
 region-within Centres = omega arith
 region-within Pairs = omega arith
 
-module _ (l : ListOf) (p : Progress) (t region : List ℕ) (fs : List Bytes) (r : RowAfter)
-    (sim : (rs : List Row) → length rs ≡ countOf l p → Fits l (p .atoms) rs → take (sizeOf l) (drop (fromOf l) t) ≡ shownAs l rs → ShowsAfter (shownAs l) region r (rowStep l (p .atoms) rs fs)) where
+abbrev pub RowsShown : ListOf → Progress → (t region : List ℕ) → List Bytes → RowAfter → Type 0
+RowsShown l p t region fs r =
+    (rs : List Row) → length rs ≡ countOf l p → Fits l (p .atoms) rs → take (sizeOf l) (drop (fromOf l) t) ≡ shownAs l rs → ShowsAfter (shownAs l) region r (rowStep l (p .atoms) rs fs)
+
+module _ (l : ListOf) (p : Progress) (t region : List ℕ) (fs : List Bytes) (r : RowAfter) (sim : RowsShown l p t region fs r) where
   module _ (k : ℕ) (block : Bytes) (at : ℕ) (st : State) (h : Shows k block at p t st) (c : Counted p) where
-    rows-shown : (next : List Row) → Fits l (p .atoms) next → region ≡ shownAs l next → Shows k block at (withCount l (length next) p) (putMid (fromOf l) (sizeOf l) t region) (rowsPut l st next)
+    rows-shown : (next : List Row) → Fits l (p .atoms) next → region ≡ shownAs l next → Shows k block at (withCount (codeOf l) (length next) p) (putMid (fromOf l) (sizeOf l) t region) (rowsPut l st next)
     rows-shown next f e = record {
       place = h .place;
       running = h .running;
@@ -134,12 +127,12 @@ module _ (l : ListOf) (p : Progress) (t region : List ℕ) (fs : List Bytes) (r 
         texts = h .holding .texts;
         formula = h .holding .formula;
         formula-fine = h .holding .formula-fine;
-        kinds = rw (rows-atoms l next (st .body)) (h .holding .kinds);
+        kinds = rw (rows-alone l next (st .body) 0 p .0) (h .holding .kinds);
         listed = rows-listed l next p (st .body) (h .holding .listed) f;
       };
     }
 
-    pub rows-turn : ShowsTurn k block at (afterTurn l p r) (putMid (fromOf l) (sizeOf l) t region) (rowLine l st fs)
+    pub rows-turn : ShowsTurn k block at (turnOf (codeOf l) p r) (putMid (fromOf l) (sizeOf l) t region) (rowLine l st fs)
     rows-turn =
         go (rowStep l (p .atoms) (rowsOf l (st .body)) fs) refl
         (sim (rowsOf l (st .body)) (h .holding .listed .counts l) (h .holding .listed .fits l)
@@ -148,41 +141,18 @@ module _ (l : ListOf) (p : Progress) (t region : List ℕ) (fs : List Bytes) (r 
         line-is : (a : After Row) → rowStep l (p .atoms) (rowsOf l (st .body)) fs ≡ a → rowLine l st fs ≡ withKept l st a
         line-is a e = row-line l st fs ∙ ap (λ (n : ℕ). withKept l st (rowStep l n (rowsOf l (st .body)) fs)) (h .holding .listed .atoms) ∙ ap (withKept l st) e
 
-        go : (a : After Row) → rowStep l (p .atoms) (rowsOf l (st .body)) fs ≡ a → ShowsAfter (shownAs l) region r a → ShowsTurn k block at (afterTurn l p r) (putMid (fromOf l) (sizeOf l) t region) (rowLine l st fs)
+        go : (a : After Row) → rowStep l (p .atoms) (rowsOf l (st .body)) fs ≡ a → ShowsAfter (shownAs l) region r a → ShowsTurn k block at (turnOf (codeOf l) p r) (putMid (fromOf l) (sizeOf l) t region) (rowLine l st fs)
         go (kept next) e s = rw (line-is (kept next) e, s .0) (rows-shown next (fits-kept l (p .atoms) (rowsOf l (st .body)) next fs (h .holding .listed .fits l) e) (s .1))
         go (refused n) e s = rw (line-is (refused n) e, s) refl
 
--- what a list's own line says, its part of the scratch being as long as it should
-abbrev pub RowsTold : ListOf → Progress → (t region : List ℕ) → List Bytes → RowAfter → Type 0
-RowsTold l p t region fs r =
-    length (take (sizeOf l) (drop (fromOf l) t)) ≡ sizeOf l
-    → (length region ≡ sizeOf l)
-    × (Counted p
-    → ((c : ℕ) → r ≡ R.Kept c → c ≤ limitOf l)
-    × ((rs : List Row) → length rs ≡ countOf l p → Fits l (p .atoms) rs → take (sizeOf l) (drop (fromOf l) t) ≡ shownAs l rs → ShowsAfter (shownAs l) region r (rowStep l (p .atoms) rs fs)))
-
--- all that a list's function promises, from that
-pub rows-promise : (l : ListOf) (p : Progress) (t region : List ℕ) (fs : List Bytes) (r : RowAfter) → RowsTold l p t region fs r → (q : RowAfter) → r ≡ q → length t ≡ 2960 →
-    (length (putMid (fromOf l) (sizeOf l) t region) ≡ 2960)
-    × (Counted p → CountedTurn p (afterTurn l p q) × ((k : ℕ) (block : Bytes) (at : ℕ) (st : State) → Shows k block at p t st → ShowsTurn k block at (afterTurn l p q) (putMid (fromOf l) (sizeOf l) t region) (rowLine l st fs)))
-rows-promise l p t region fs r told q e long =
-    let w = told (part-long (fromOf l) (sizeOf l) t long (region-within l)) in (
-      put-long (fromOf l) (sizeOf l) t region long (region-within l) (w .0),
-      λ c. (counted-turn l p q c (λ n f. w .1 c .0 n (e ∙ f)), λ k block at st h. rw (sym e) (rows-turn l p t region fs r (w .1 c .1) k block at st h c)),
-    )
+pub rows-gather : (l : ListOf) (code k : ℕ) (fs : List Bytes) (p : Progress) (t region : List ℕ) (r : RowAfter)
+    → (6 ≤ code → code ≤ 11 → code ≡ codeOf l) → Told (sizeOf l) (limitOf l) p (take (sizeOf l) (drop (fromOf l) t)) region r (RowsShown l p t region fs r) → length t ≡ 2960
+    → (length (putMid (fromOf l) (sizeOf l) t region) ≡ 2960) × Gathers code k fs p t (putMid (fromOf l) (sizeOf l) t region) (turnOf code p r)
+rows-gather l code k fs p t region r =
+    told-gathers code k fs p t region r (codeOf l) (fromOf l) (sizeOf l) (limitOf l) (RowsShown l p t region fs r) (region-within l) (λ n c. counted-kept l n p c)
+    (λ c low sim block at st h. rw (list-rows k st fs l) (rows-turn l p t region fs r sim k block at st h c))
 
 -- THE ATOMS
-abbrev pub withAtomCount : ℕ → Progress → Progress
-withAtomCount c p = altered (p .running) (p .top) (p .title) (p .origin) (p .owner) (p .formula) c (p .id) p
-
-abbrev pub afterAtom : Progress → RowAfter → Turn
-afterAtom p (R.Kept c) = Go (withAtomCount c p)
-afterAtom p (R.Stop n) = Stop n
-
-counted-atom : (p : Progress) (q : RowAfter) → Counted p → ((c : ℕ) → q ≡ R.Kept c → c ≤ 256) → CountedTurn p (afterAtom p q)
-counted-atom p (R.Kept c) h f = (record { atoms = f c refl; bonds = h .bonds; charges = h .charges; radicals = h .radicals; centres = h .centres; pairs = h .pairs }, refl)
-counted-atom p (R.Stop n) h f = tt
-
 -- one atom more, or none, leaves the other lists' rows fitting
 atom-fits : (k : ℕ) (listed next : List Atom) → ((next ≡ listed) ⊎ AtomAdded k listed next) → (l : ListOf) (rs : List Row) → Fits l (length listed) rs → Fits l (length next) rs
 atom-fits k listed next (inl e) l rs f = rw e f
@@ -192,10 +162,12 @@ atom-kinds : (k : ℕ) (listed next : List Atom) → ((next ≡ listed) ⊎ Atom
 atom-kinds k listed next (inl e) h = ap (all (atomOk k)) e ∙ h
 atom-kinds k listed next (inr a) h = ap (all (atomOk k)) (a .is) ∙ all-append-both (atomOk k) listed (a .new ∷ []) h (all-one (atomOk k) (a .new) ∙ a .fine)
 
-module _ (p : Progress) (t region : List ℕ) (fs : List Bytes) (r : RowAfter) (k : ℕ)
-    (sim : (listed : List Atom) → length listed ≡ p .atoms → take 768 (drop 0 t) ≡ kindsRegion listed → ShowsAfter kindsRegion region r (atomStep k listed fs)) where
+abbrev pub AtomsShown : Progress → (t region : List ℕ) → List Bytes → RowAfter → (k : ℕ) → Type 0
+AtomsShown p t region fs r k = (listed : List Atom) → length listed ≡ p .atoms → take 768 (drop 0 t) ≡ kindsRegion listed → ShowsAfter kindsRegion region r (atomStep k listed fs)
+
+module _ (p : Progress) (t region : List ℕ) (fs : List Bytes) (r : RowAfter) (k : ℕ) (sim : AtomsShown p t region fs r k) where
   module _ (low : 1 ≤ k) (block : Bytes) (at : ℕ) (st : State) (h : Shows k block at p t st) (c : Counted p) where
-    atoms-listed : (next : List Atom) → ((next ≡ st .body .atoms) ⊎ AtomAdded k (st .body .atoms) next) → Listed (withAtomCount (length next) p) (withAtoms next (st .body))
+    atoms-listed : (next : List Atom) → ((next ≡ st .body .atoms) ⊎ AtomAdded k (st .body .atoms) next) → Listed (withCount 6 (length next) p) (withAtoms next (st .body))
     unfolding rowsOf
     atoms-listed next a =
         let old = h .holding .listed in
@@ -207,7 +179,7 @@ module _ (p : Progress) (t region : List ℕ) (fs : List Bytes) (r : RowAfter) (
           id = old .id;
         }
 
-    atoms-shown : (next : List Atom) → ((next ≡ st .body .atoms) ⊎ AtomAdded k (st .body .atoms) next) → region ≡ kindsRegion next → Shows k block at (withAtomCount (length next) p) (putMid 0 768 t region) (atomsPut st next)
+    atoms-shown : (next : List Atom) → ((next ≡ st .body .atoms) ⊎ AtomAdded k (st .body .atoms) next) → region ≡ kindsRegion next → Shows k block at (withCount 6 (length next) p) (putMid 0 768 t region) (atomsPut st next)
     atoms-shown next a e = record {
       place = h .place;
       running = h .running;
@@ -222,7 +194,7 @@ module _ (p : Progress) (t region : List ℕ) (fs : List Bytes) (r : RowAfter) (
       };
     }
 
-    pub atoms-turn : ShowsTurn k block at (afterAtom p r) (putMid 0 768 t region) (atomLine k st fs)
+    pub atoms-turn : ShowsTurn k block at (turnOf 6 p r) (putMid 0 768 t region) (atomLine k st fs)
     atoms-turn =
         go (atomStep k (st .body .atoms) fs) refl
         (sim (st .body .atoms) (h .holding .listed .atoms) (ap (λ (s : List ℕ). take 768 (drop 0 s)) (h .holding .scratch) ∙ atoms-seated st (sized p st c (h .holding .listed)) .0))
@@ -230,24 +202,14 @@ module _ (p : Progress) (t region : List ℕ) (fs : List Bytes) (r : RowAfter) (
         line-is : (a : After Atom) → atomStep k (st .body .atoms) fs ≡ a → atomLine k st fs ≡ withListed st a
         line-is a e = atom-line k st fs ∙ ap (withListed st) e
 
-        go : (a : After Atom) → atomStep k (st .body .atoms) fs ≡ a → ShowsAfter kindsRegion region r a → ShowsTurn k block at (afterAtom p r) (putMid 0 768 t region) (atomLine k st fs)
+        go : (a : After Atom) → atomStep k (st .body .atoms) fs ≡ a → ShowsAfter kindsRegion region r a → ShowsTurn k block at (turnOf 6 p r) (putMid 0 768 t region) (atomLine k st fs)
         go (kept next) e s = rw (line-is (kept next) e, s .0) (atoms-shown next (atom-kept k low (st .body .atoms) next fs e) (s .1))
         go (refused n) e s = rw (line-is (refused n) e, s) refl
 
--- what the line of an atom says, its part of the scratch being as long as it should
-abbrev pub AtomsTold : Progress → (t region : List ℕ) → List Bytes → RowAfter → (k : ℕ) → Type 0
-AtomsTold p t region fs r k =
-    length (take 768 (drop 0 t)) ≡ 768
-    → (length region ≡ 768)
-    × (Counted p
-    → ((c : ℕ) → r ≡ R.Kept c → c ≤ 256)
-    × ((listed : List Atom) → length listed ≡ p .atoms → take 768 (drop 0 t) ≡ kindsRegion listed → ShowsAfter kindsRegion region r (atomStep k listed fs)))
-
-pub atoms-promise : (p : Progress) (t region : List ℕ) (fs : List Bytes) (r : RowAfter) (k : ℕ) → AtomsTold p t region fs r k → (q : RowAfter) → r ≡ q → length t ≡ 2960 →
-    (length (putMid 0 768 t region) ≡ 2960)
-    × (Counted p → 1 ≤ k → CountedTurn p (afterAtom p q) × ((block : Bytes) (at : ℕ) (st : State) → Shows k block at p t st → ShowsTurn k block at (afterAtom p q) (putMid 0 768 t region) (atomLine k st fs)))
-atoms-promise p t region fs r k told q e long =
-    let w = told (part-long 0 768 t long (omega arith)) in (
-      put-long 0 768 t region long (omega arith) (w .0),
-      λ c low. (counted-atom p q c (λ n f. w .1 c .0 n (e ∙ f)), λ block at st h. rw (sym e) (atoms-turn p t region fs r k (w .1 c .1) low block at st h c)),
-    )
+pub atoms-gather : (code k : ℕ) (fs : List Bytes) (p : Progress) (t region : List ℕ) (r : RowAfter)
+    → (6 ≤ code → code ≤ 11 → code ≡ 6) → Told 768 256 p (take 768 (drop 0 t)) region r (AtomsShown p t region fs r k) → length t ≡ 2960
+    → (length (putMid 0 768 t region) ≡ 2960) × Gathers code k fs p t (putMid 0 768 t region) (turnOf code p r)
+atoms-gather code k fs p t region r =
+    told-gathers code k fs p t region r 6 0 768 256 (AtomsShown p t region fs r k) (omega arith)
+    (λ n h few. record { atoms = few; bonds = h .bonds; charges = h .charges; radicals = h .radicals; centres = h .centres; pairs = h .pairs })
+    (λ c low sim block at st h. rw (list-atoms k st fs) (atoms-turn p t region fs r k sim low block at st h c))

@@ -1,12 +1,12 @@
 -- What the reader's progress and scratch hold of a state: document 01, "Lines and labels", "Rows". Assumes nothing.
 use Prim.Native.Nat.{ℕ, _-_, _≤_, _<_}
 use mathlib.Core.Path.{_≡_}
-use mathlib.Core.Bool.{Bool, true, _&&_}
+use mathlib.Core.Bool.{Bool, true, false, _&&_}
 use mathlib.Core.Option.{Option, none, some}
 use mathlib.Core.List.{List, [], _∷_, _++_, map}
 use lib.ListN.{length, take, drop}
 use Rattle.lists.specs.Lists.{all}
-use lib.Dec.{leb}
+use lib.Dec.{eqb, leb}
 use Rattle.format.specs.Bytes.{Bytes, within}
 use Rattle.format.specs.Labels.{ListOf, Bonds, Charges, Radicals, Centres, Pairs}
 use Rattle.format.specs.Formula.{Counted as Told, formulaShape}
@@ -121,6 +121,27 @@ altered running top title origin owner formula atoms id p = record {
   centres = p .centres;
   pairs = p .pairs;
   id = id;
+}
+
+-- p with another count of the list whose label has the code
+abbrev pub countFor : (code own c old : ℕ) → ℕ
+countFor code own c old = elim (eqb code own) [ true ↦ c | false ↦ old ]
+
+abbrev pub withCount : (code c : ℕ) → Progress → Progress
+withCount code c p = record {
+  running = p .running;
+  top = p .top;
+  title = p .title;
+  origin = p .origin;
+  owner = p .owner;
+  formula = p .formula;
+  atoms = countFor code 6 c (p .atoms);
+  bonds = countFor code 7 c (p .bonds);
+  charges = countFor code 8 c (p .charges);
+  radicals = countFor code 9 c (p .radicals);
+  centres = countFor code 10 c (p .centres);
+  pairs = countFor code 11 c (p .pairs);
+  id = p .id;
 }
 
 abbrev pub CountedTurn : Progress → Turn → Type 0

@@ -9,7 +9,7 @@ use Rattle.lists.specs.Lists.{isNil}
 use Rattle.format.specs.Bytes.{Bytes, cut}
 use Rattle.format.specs.Labels.{Bonds, Atoms, Rows}
 use Rattle.format.specs.Reading.{Rules, State, readLines}
-use Rattle.gather.specs.Progress.{altered, Counted, CountedTurn}
+use Rattle.gather.specs.Progress.{withCount, Counted, CountedTurn}
 use Rattle.gather.specs.Shows.{Shows}
 use Rattle.gather.specs.declared.progress.Progress.{Progress}
 use Rattle.gather.specs.declared.progress.Turn.the-variants.{Go}
@@ -23,41 +23,20 @@ pub record Reached (u : Rules) (k : ℕ) (block : Bytes) (at place : ℕ) (p : P
   pub seen : state .seen ≡ st .seen
   pub goes : readLines u st (cut (drop at block)) ≡ readLines u state (cut (drop place block))
 
--- p with another count of atoms, of bonds
-abbrev pub atomsCounted : ℕ → Progress → Progress
-atomsCounted c p = altered (p .running) (p .top) (p .title) (p .origin) (p .owner) (p .formula) c (p .id) p
-
-abbrev pub bondsCounted : ℕ → Progress → Progress
-bondsCounted c p = record {
-  running = p .running;
-  top = p .top;
-  title = p .title;
-  origin = p .origin;
-  owner = p .owner;
-  formula = p .formula;
-  atoms = p .atoms;
-  bonds = c;
-  charges = p .charges;
-  radicals = p .radicals;
-  centres = p .centres;
-  pairs = p .pairs;
-  id = p .id;
-}
-
 -- a list's rows from `at` to the run's place were gathered
 pub record AtomsRan (k : ℕ) (block : Bytes) (at atoms : ℕ) (before after : List ℕ) (r : Run) : Type 0 where
   pub low : at ≤ r .place
   pub high : at ≤ length block → r .place ≤ length block
   pub most : atoms ≤ 256 → r .count ≤ 256
   pub goes : (u : Rules) (p : Progress) (st : State) → u .elements ≡ k → 1 ≤ k → Counted p → p .atoms ≡ atoms → st .running ≡ Atoms → isNil (st .seen) ≡ false
-      → Shows k block at p before st → Reached u k block at (r .place) (atomsCounted (r .count) p) after st
+      → Shows k block at p before st → Reached u k block at (r .place) (withCount 6 (r .count) p) after st
 
 pub record BondsRan (block : Bytes) (at atoms bonds : ℕ) (before after : List ℕ) (r : Run) : Type 0 where
   pub low : at ≤ r .place
   pub high : at ≤ length block → r .place ≤ length block
   pub most : bonds ≤ 512 → r .count ≤ 512
   pub goes : (u : Rules) (k : ℕ) (p : Progress) (st : State) → Counted p → p .atoms ≡ atoms → p .bonds ≡ bonds → st .running ≡ Rows Bonds → isNil (st .seen) ≡ false
-      → Shows k block at p before st → Reached u k block at (r .place) (bondsCounted (r .count) p) after st
+      → Shows k block at p before st → Reached u k block at (r .place) (withCount 7 (r .count) p) after st
 
 -- WHAT IS KNOWN BEHIND A RUN: the counts alone change, and nothing where neither ATOMLIST (6) nor BONDLIST (7) runs
 pub record RowsRan (k : ℕ) (block : Bytes) (at : ℕ) (p : Progress) (before after : List ℕ) (r : Ran) : Type 0 where

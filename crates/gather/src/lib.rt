@@ -1,7 +1,7 @@
 // One line of a list among the rows that are there: document 01, "Rows". The scratch lent has a region for each list, sorted or as the rows came.
 pub mod progress; // progress.rt: what is known before a line
 mod runs; // runs.rt: quick rows one behind the other
-mod turns; // turns.rt: each list's line in the whole scratch
+mod turns; // turns.rt: a line in its list's region of the scratch
 
 ghost use mathlib.Core.Path.{_≡_};
 ghost use Prim.Native.Nat.{ℕ, _≤_};
@@ -16,12 +16,9 @@ use crate::progress::Progress;
 use crate::progress::Turn;
 use crate::runs::atom_run;
 use crate::runs::bond_run;
-use crate::turns::atoms_turn;
-use crate::turns::bonds_turn;
-use crate::turns::centres_turn;
-use crate::turns::charges_turn;
-use crate::turns::pairs_turn;
-use crate::turns::radicals_turn;
+use crate::turns::row_after;
+use crate::turns::with_count;
+use sorted::after::RowAfter;
 
 // A line of the list whose label has the code: 6 ATOMLIST, 7 BONDLIST, 8 CHARGE, 9 RADICAL, 10 STEREOCENTER, 11 STEREOPAIR. The line is without its comment.
 // What no reading lends, another length or counts over their limits, is answered before anything is touched.
@@ -32,13 +29,9 @@ pub fn list_turn(line: &[u8], code: u32, last: u32, p: Progress, scratch: &mut [
     if scratch.len() != 2960 {
         return Turn::Stop(0);
     }
-    match code {
-        6 => atoms_turn(line, last, p, scratch),
-        7 => bonds_turn(line, p, scratch),
-        8 => charges_turn(line, p, scratch),
-        9 => radicals_turn(line, p, scratch),
-        10 => centres_turn(line, p, scratch),
-        _ => pairs_turn(line, p, scratch),
+    match row_after(line, code, last, p, scratch) {
+        RowAfter::Kept(count) => Turn::Go(with_count(code, count, p)),
+        RowAfter::Stop(number) => Turn::Stop(number),
     }
 }
 
@@ -49,7 +42,7 @@ pub struct Ran {
 }
 
 // Gathers the quick rows from `at` on where ATOMLIST (6) or BONDLIST (7) runs; nothing elsewhere, and nothing before the first label.
-pub fn rows_run(block: &[u8], at: usize, last: u32, p: Progress, scratch: &mut [u32]) -> Ran
+pub fn rows_run(block: &[u8], at: usize, last: u32, mut p: Progress, scratch: &mut [u32]) -> Ran
     ensures { λ r. ⌜ (length (now (scratch .exit)) ≡ length (now (scratch .entry))) × RowsRan last (now (block .entry)) at p (now (scratch .entry)) (now (scratch .exit)) r ⌝ }
 {
     if scratch.len() != 2960 {
@@ -64,21 +57,20 @@ pub fn rows_run(block: &[u8], at: usize, last: u32, p: Progress, scratch: &mut [
             known: p,
         };
     }
-    let mut next = p;
     if p.running == 6 {
         let run = atom_run(block, at, last, p.atoms, scratch);
-        next.atoms = run.count;
+        p.atoms = run.count;
         return Ran {
             place: run.place,
-            known: next,
+            known: p,
         };
     }
     if p.running == 7 {
         let run = bond_run(block, at, p.atoms, p.bonds, scratch);
-        next.bonds = run.count;
+        p.bonds = run.count;
         return Ran {
             place: run.place,
-            known: next,
+            known: p,
         };
     }
     Ran {
