@@ -10,7 +10,7 @@ ghost use Rattle.format.specs.Structure.{Atom};
 ghost use Rattle.sorted.specs.Steps.{atomStep};
 ghost use Rattle.sorted.specs.Regions.{kindsRegion};
 ghost use Rattle.sorted.specs.Shown.{ShowsAfter};
-ghost use Rattle.sorted.specs.Keyed.{KeptWithin};
+ghost use Rattle.sorted.specs.Keyed.{KeptWithin, Untouched};
 use rows::atom::AtomRow;
 use sorted::after::RowAfter;
 
@@ -35,7 +35,8 @@ pub fn put_atom(region: &mut [u32], atoms: usize, element: u32, mass: u32, hydro
 // The line is without its comment.
 pub fn atom_line(line: &[u8], last: u32, atoms: usize, region: &mut [u32]) -> RowAfter
     ensures { λ r. ⌜ (length (now (region .exit)) ≡ length (now (region .entry))) × (length (now (region .entry)) ≡ 768 → atoms ≤ 256 → KeptWithin 256 r × ((listed : List Atom) → length listed ≡ atoms → now (region .entry) ≡ kindsRegion listed →
-        ShowsAfter kindsRegion (now (region .exit)) r (atomStep last listed (fields (now (line .entry)))))) ⌝ }
+        ShowsAfter kindsRegion (now (region .exit)) r (atomStep last listed (fields (now (line .entry))))))
+        × ((length (now (region .entry)) ≡ 768 → atoms ≤ 256 → ⊥) → Untouched (now (region .entry)) (now (region .exit)) r) ⌝ }
 {
     if region.len() != 768 {
         return RowAfter::Stop(0);

@@ -56,6 +56,10 @@ KeptWithin limit a = (c : ℕ) → a ≡ Kept c → c ≤ limit
 abbrev pub StopLeaves : (before after : List ℕ) → RowAfter → Type 0
 StopLeaves before after a = (n : ℕ) → a ≡ Stop n → after ≡ before
 
+-- what no reading lends is answered 0, and the region is as it was
+abbrev pub Untouched : (before after : List ℕ) → RowAfter → Type 0
+Untouched before after a = (a ≡ Stop 0) × (after ≡ before)
+
 -- of a row whose values are in hand: of every list by key with that limit, and every row of it with those atoms and that payload that a line can say
 abbrev pub RowShows : (most : ℕ) (ns : List ℕ) (payload : ℕ) (dropping : Bool) (n count : ℕ) (before after : List ℕ) → RowAfter → Type 0
 RowShows limit ns payload dropping n count before after a =

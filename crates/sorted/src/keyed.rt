@@ -9,7 +9,7 @@ ghost use lib.ListN.{length};
 ghost use Rattle.lists.specs.Lists.{isNil};
 ghost use Rattle.format.specs.Bytes.{within, fields};
 ghost use Rattle.format.specs.Labels.{Bonds, Centres, Pairs};
-ghost use Rattle.sorted.specs.Keyed.{KeptWithin, StopLeaves, RowShows, LineShows};
+ghost use Rattle.sorted.specs.Keyed.{KeptWithin, StopLeaves, Untouched, RowShows, LineShows};
 use crate::after::RowAfter;
 use rows::bond::BondRow;
 use rows::centre::CentreRow;
@@ -111,7 +111,8 @@ pub fn bond_joined(
 
 // What a line of BONDLIST leaves of its list, `count` bonds there and `atoms` atoms listed: "two atoms and S, D, T, Q or A". The line is without its comment.
 pub fn bond_line(line: &[u8], atoms: usize, count: usize, region: &mut [u32]) -> RowAfter
-    ensures { λ r. ⌜ (length (now (region .exit)) ≡ length (now (region .entry))) × (length (now (region .entry)) ≡ 1024 → count ≤ 512 → atoms ≤ 256 → KeptWithin 512 r × LineShows Bonds atoms count (now (line .entry)) (now (region .entry)) (now (region .exit)) r) ⌝ }
+    ensures { λ r. ⌜ (length (now (region .exit)) ≡ length (now (region .entry))) × (length (now (region .entry)) ≡ 1024 → count ≤ 512 → atoms ≤ 256 → KeptWithin 512 r × LineShows Bonds atoms count (now (line .entry)) (now (region .entry)) (now (region .exit)) r)
+        × ((length (now (region .entry)) ≡ 1024 → count ≤ 512 → atoms ≤ 256 → ⊥) → Untouched (now (region .entry)) (now (region .exit)) r) ⌝ }
 {
     if region.len() != 1024 {
         return RowAfter::Stop(0);
@@ -133,7 +134,8 @@ pub fn bond_line(line: &[u8], atoms: usize, count: usize, region: &mut [u32]) ->
 
 // What a line of STEREOCENTER leaves of its list: "atom, P or M, optional group `0`, A to Z or a to z".
 pub fn centre_line(line: &[u8], atoms: usize, count: usize, region: &mut [u32]) -> RowAfter
-    ensures { λ r. ⌜ (length (now (region .exit)) ≡ length (now (region .entry))) × (length (now (region .entry)) ≡ 256 → count ≤ 128 → atoms ≤ 256 → KeptWithin 128 r × LineShows Centres atoms count (now (line .entry)) (now (region .entry)) (now (region .exit)) r) ⌝ }
+    ensures { λ r. ⌜ (length (now (region .exit)) ≡ length (now (region .entry))) × (length (now (region .entry)) ≡ 256 → count ≤ 128 → atoms ≤ 256 → KeptWithin 128 r × LineShows Centres atoms count (now (line .entry)) (now (region .entry)) (now (region .exit)) r)
+        × ((length (now (region .entry)) ≡ 256 → count ≤ 128 → atoms ≤ 256 → ⊥) → Untouched (now (region .entry)) (now (region .exit)) r) ⌝ }
 {
     if region.len() != 256 {
         return RowAfter::Stop(0);
@@ -155,7 +157,8 @@ pub fn centre_line(line: &[u8], atoms: usize, count: usize, region: &mut [u32]) 
 
 // What a line of STEREOPAIR leaves of its list: "two atoms, P, M or 0, optional group".
 pub fn pair_line(line: &[u8], atoms: usize, count: usize, region: &mut [u32]) -> RowAfter
-    ensures { λ r. ⌜ (length (now (region .exit)) ≡ length (now (region .entry))) × (length (now (region .entry)) ≡ 256 → count ≤ 128 → atoms ≤ 256 → KeptWithin 128 r × LineShows Pairs atoms count (now (line .entry)) (now (region .entry)) (now (region .exit)) r) ⌝ }
+    ensures { λ r. ⌜ (length (now (region .exit)) ≡ length (now (region .entry))) × (length (now (region .entry)) ≡ 256 → count ≤ 128 → atoms ≤ 256 → KeptWithin 128 r × LineShows Pairs atoms count (now (line .entry)) (now (region .entry)) (now (region .exit)) r)
+        × ((length (now (region .entry)) ≡ 256 → count ≤ 128 → atoms ≤ 256 → ⊥) → Untouched (now (region .entry)) (now (region .exit)) r) ⌝ }
 {
     if region.len() != 256 {
         return RowAfter::Stop(0);

@@ -15,6 +15,7 @@ ghost use Rattle.format.specs.Structure.{ranged};
 ghost use Rattle.sorted.specs.Steps.{rowAfter, rowStep};
 ghost use Rattle.sorted.specs.Regions.{Fits, coded, spreadRegion};
 ghost use Rattle.sorted.specs.Shown.{ShowsAfter};
+ghost use Rattle.sorted.specs.Keyed.{Untouched};
 ghost use Rattle.sorted.specs.declared.after.RowAfter.the-variants.{Kept};
 ghost use Rattle.spread.specs.Members.{listOf, ShowsValue, ValueOf, isNumber, membersIn, MemberAt, claims, claimed, ShowsClaim};
 use numbers::Numeral;
@@ -235,7 +236,8 @@ pub fn spread_line(
     region: &mut [u32],
 ) -> RowAfter
     ensures { λ r. ⌜ (length (now (region .exit)) ≡ length (now (region .entry))) × (length (now (region .entry)) ≡ 321 → count ≤ 64 → atoms ≤ 256 → ((c : ℕ) → r ≡ Kept c → c ≤ 64) × ((rs : List Row) → length rs ≡ count → Fits (listOf signed) atoms rs → now (region .entry) ≡ spreadRegion rs →
-        ShowsAfter spreadRegion (now (region .exit)) r (rowStep (listOf signed) atoms rs (fields (now (line .entry)))))) ⌝ }
+        ShowsAfter spreadRegion (now (region .exit)) r (rowStep (listOf signed) atoms rs (fields (now (line .entry))))))
+        × ((length (now (region .entry)) ≡ 321 → count ≤ 64 → atoms ≤ 256 → ⊥) → Untouched (now (region .entry)) (now (region .exit)) r) ⌝ }
 {
     if region.len() != 321 {
         return RowAfter::Stop(0);

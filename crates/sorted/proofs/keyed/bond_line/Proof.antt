@@ -9,19 +9,19 @@ use Rattle.sorted.proofs.keyed.bond_line.Statement.{statement}
 use Rattle.sorted.proofs.keyed.bond_line.Tie as tie
 
 returns : tie.Need-returns
-returns c = (refl, λ long. absurd (c .if1 .taken long))
+returns c = (refl, λ long. absurd (c .if1 .taken long), λ other. (refl, refl))
 
 returns-2 : tie.Need-returns-2
-returns-2 c = (refl, λ long few. absurd (omega (arith, few)))
+returns-2 c = (refl, λ long few. absurd (omega (arith, few)), λ other. (refl, refl))
 
 returns-3 : tie.Need-returns-3
-returns-3 c = (refl, λ long few atoms. absurd (omega (arith, atoms)))
+returns-3 c = (refl, λ long few atoms. absurd (omega (arith, atoms)), λ other. (refl, refl))
 
 is-bare-requires : tie.Need-is-bare-requires
 is-bare-requires c κs = search needs
 
 returns-4 : tie.Need-returns-4
-returns-4 c = (refl, λ long few atoms. (kept-within _ _ few, shows-blank _ _ _ _ _ (sym (c .before .is-bare .ensures) ∙ c .if4 .taken)))
+returns-4 c = (refl, λ long few atoms. (kept-within _ _ few, shows-blank _ _ _ _ _ (sym (c .before .is-bare .ensures) ∙ c .if4 .taken)), λ other. absurd (other (omega arith) (omega arith) (omega arith)))
 
 bond-row-requires : tie.Need-bond-row-requires
 bond-row-requires c κs = search needs
@@ -33,7 +33,7 @@ enum-told : tie.Need-enum-told
 enum-told c = search needs
 
 returns-5 : tie.Need-returns-5
-returns-5 c = (refl, λ long few atoms. (stop-within _ _, bond-wrong _ _ _ _ _ (sym (c .before .before .before .before .is-bare .ensures) ∙ c .before .before .before .if4 .left) _ (c .before .before .bond-row .ensures) (c .enum-told .given .1)))
+returns-5 c = (refl, λ long few atoms. (stop-within _ _, bond-wrong _ _ _ _ _ (sym (c .before .before .before .before .is-bare .ensures) ∙ c .before .before .before .if4 .left) _ (c .before .before .bond-row .ensures) (c .enum-told .given .1)), λ other. absurd (other (omega arith) (omega arith) (omega arith)))
 
 mul-two-atoms : tie.Need-mul-two-atoms
 mul-two-atoms c = let q = bond-small _ _ (c .before .before .before .before .bond-row .ensures) _ _ _ (c .before .before .first .given .1) in record { fits = omega (arith, q) }
@@ -45,7 +45,7 @@ same-length : tie.Need-same-length
 same-length c = search needs
 
 returns-6 : tie.Need-returns-6
-returns-6 c = (c .before .before .two-atoms .ensures .0, λ long few atoms. (c .before .before .two-atoms .ensures .1, bond-shows _ _ _ _ _ (sym (c .before .before .before .before .before .before .before .before .before .is-bare .ensures) ∙ c .before .before .before .before .before .before .before .before .if4 .left) _ (c .before .before .before .before .before .before .before .bond-row .ensures) _ _ _ (c .before .before .before .before .before .first .given .1) _ (c .before .before .two-atoms .ensures .2)))
+returns-6 c = (c .before .before .two-atoms .ensures .0, λ long few atoms. (c .before .before .two-atoms .ensures .1, bond-shows _ _ _ _ _ (sym (c .before .before .before .before .before .before .before .before .before .is-bare .ensures) ∙ c .before .before .before .before .before .before .before .before .if4 .left) _ (c .before .before .before .before .before .before .before .bond-row .ensures) _ _ _ (c .before .before .before .before .before .first .given .1) _ (c .before .before .two-atoms .ensures .2)), λ other. absurd (other (omega arith) (omega arith) (omega arith)))
 
 pub bond-line-spec : {M : Type 1} → statement M
 bond-line-spec =
