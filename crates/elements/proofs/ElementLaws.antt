@@ -23,13 +23,6 @@ symbolic (a ∷ b ∷ []) = upper a && lower b
 symbolic (a ∷ b ∷ c ∷ w) = false
 
 -- the letters of a symbol are those of its number
-pub spelling-one : (a : ℕ) → 65 ≤ a → a ≤ 90 → spelling ((a - 65) * 27) ≡ a ∷ []
-unfolding spelling
-spelling-one a l h =
-    let q : 65 + (a - 65) * 27 / 27 ≡ a = omega arith in
-    let r : (a - 65) * 27 % 27 ≡ 0 = omega arith in
-    ap₂ (λ (x y : ℕ). x ∷ lowerAt y) q r
-
 pub spelling-two : (a b : ℕ) → 65 ≤ a → a ≤ 90 → 97 ≤ b → b ≤ 122 → spelling ((a - 65) * 27 + (b - 96)) ≡ a ∷ b ∷ []
 unfolding spelling
 spelling-two a b l h m k =
@@ -65,10 +58,10 @@ module _ (a b last : ℕ) where
       go zero n f = absurd (n refl)
       go (suc b) n f = and-right-false (upper a) (lower (suc b)) f
 
-  module _ (l : 65 ≤ a) (h : a ≤ 90) (e r : ℕ) (is : r ≡ upTo last e) where
-    pub one-letter : b ≡ 0 → e ≡ placeOf 1 (spelling ((a - 65) * 27)) symbols → r ≡ placeOf 1 (letters (symOf false 0 a b)) (take last symbols)
-    one-letter z p = is ∙ among-first last e (a ∷ []) (p ∙ ap (λ (w : Bytes). placeOf 1 w symbols) (spelling-one a l h)) ∙ sym (ap (λ (d : ℕ). placeOf 1 (letters (symOf false 0 a d)) (take last symbols)) z)
+  pub one-letter : (e r : ℕ) → r ≡ upTo last e → b ≡ 0 → e ≡ placeOf 1 (a ∷ []) symbols → r ≡ placeOf 1 (letters (symOf false 0 a b)) (take last symbols)
+  one-letter e r is z p = is ∙ among-first last e (a ∷ []) p ∙ sym (ap (λ (d : ℕ). placeOf 1 (letters (symOf false 0 a d)) (take last symbols)) z)
 
+  module _ (l : 65 ≤ a) (h : a ≤ 90) (e r : ℕ) (is : r ≡ upTo last e) where
     pub two-letters : 97 ≤ b → b ≤ 122 → e ≡ placeOf 1 (spelling ((a - 65) * 27 + (b - 96))) symbols → r ≡ placeOf 1 (letters (symOf false 0 a b)) (take last symbols)
     two-letters m k p =
         is

@@ -1,63 +1,73 @@
--- The table of elements by their letters, and its rule, which is computed once over the whole table: an entry is the place among the symbols of the letters
--- that its number has. Serves the elements of document 01, "Rows". Assumes nothing.
-use mathlib.Core.Path.{_≡_, refl}
-use mathlib.Core.Bool.{Bool, true, _&&_}
+-- The elements by their letters, and the rule of it, which is computed once for all letters: an entry is the place among the symbols of the letters that its
+-- number has. Serves the elements of document 01, "Rows". Assumes nothing.
+use mathlib.Core.Path.{_≡_, refl, sym, ap, _∙_}
+use mathlib.Core.Bool.{Bool, true}
 use mathlib.Core.List.{List, [], _∷_}
-use Prim.Native.Nat.{ℕ, _*_, _<_}
-use lib.ListN.{length, getD}
-use lib.Dec.{eqb, ltb}
-use borrow.Author.Tests.{eqb-true, ltb-true}
+use Prim.Native.Nat.{ℕ, _*_, _/_, _%_, _^_, _≤_, _<_}
+use native.Mathlib.Omega.{arith}
+use lib.ListN.{getD}
+use lib.Dec.{eqb}
+use borrow.Author.Tests.{eqb-true}
 use Rattle.lists.specs.Lists.{any, sameBy}
-use Rattle.lists.proofs.Bools.{and-parts}
 use Rattle.format.specs.Bytes.{bytes, blank, gap, consTo, fields}
 use Rattle.format.specs.Structure.{symbols, placeOf}
 use Rattle.elements.specs.Spelling.{spelling}
-use Rattle.elements.proofs.TableRule.{every, at-each}
+use Rattle.elements.specs.Words.{words, wordOf, entryOf}
+use Rattle.elements.proofs.TableRule.{below, at-below, Missed, bare, gone}
 
-unfoldable pub places : List ℕ
-places = 0 ∷ 0 ∷ 0 ∷ 89 ∷ 0 ∷ 0 ∷ 0 ∷ 47 ∷ 0 ∷ 0 ∷ 0 ∷ 0 ∷ 13 ∷ 95 ∷ 0 ∷ 0 ∷ 0 ∷ 0 ∷ 18 ∷ 33 ∷ 85 ∷ 79 ∷ 0 ∷ 0 ∷ 0 ∷ 0 ∷ 0 ∷ 5 ∷ 56 ∷ 0 ∷ 0 ∷ 0 ∷ 4 ∷ 0 ∷ 0 ∷ 0 ∷ 83 ∷ 0 ∷ 97 ∷ 0 ∷ 0 ∷ 0 ∷ 0 ∷ 0 ∷ 0 ∷ 35 ∷ 0 ∷ 0 ∷ 0 ∷ 0 ∷ 0 ∷ 0 ∷ 0 ∷ 0 ∷ 6 ∷ 20 ∷ 0 ∷ 0 ∷ 48 ∷ 58 ∷ 98 ∷ 0 ∷ 0 ∷ 0 ∷ 0 ∷ 0 ∷ 17 ∷ 96 ∷ 0 ∷ 27 ∷ 0 ∷ 0 ∷ 24 ∷ 55 ∷ 0 ∷ 29 ∷ 0 ∷ 0 ∷ 0 ∷ 0 ∷ 0 ∷ 0 ∷ 0 ∷ 0 ∷ 0 ∷ 0 ∷ 0 ∷ 0 ∷ 0 ∷ 0 ∷ 0 ∷ 0 ∷ 0 ∷ 0 ∷ 0 ∷ 0 ∷ 0 ∷ 0 ∷ 0 ∷ 0 ∷ 0 ∷ 0 ∷ 0 ∷ 0 ∷ 0 ∷ 0 ∷ 66 ∷ 0 ∷ 0 ∷ 0 ∷ 0 ∷ 0 ∷ 0 ∷ 0 ∷ 0 ∷ 0 ∷ 0 ∷ 0 ∷ 0 ∷ 0 ∷ 0 ∷ 0 ∷ 0 ∷ 0 ∷ 0 ∷ 0 ∷ 68 ∷ 99 ∷ 0 ∷ 63 ∷ 0 ∷ 0 ∷ 0 ∷ 0 ∷ 0 ∷ 9 ∷ 0 ∷ 0 ∷ 0 ∷ 0 ∷ 26 ∷ 0 ∷ 0 ∷ 0 ∷ 0 ∷ 0 ∷ 0 ∷ 0 ∷ 100 ∷ 0 ∷ 0 ∷ 0 ∷ 0 ∷ 87 ∷ 0 ∷ 0 ∷ 0 ∷ 0 ∷ 0 ∷ 0 ∷ 0 ∷ 0 ∷ 0 ∷ 31 ∷ 0 ∷ 0 ∷ 64 ∷ 32 ∷ 0 ∷ 0 ∷ 0 ∷ 0 ∷ 0 ∷ 0 ∷ 0 ∷ 0 ∷ 0 ∷ 0 ∷ 0 ∷ 0 ∷ 0 ∷ 0 ∷ 0 ∷ 0 ∷ 0 ∷ 0 ∷ 0 ∷ 0 ∷ 0 ∷ 1 ∷ 0 ∷ 0 ∷ 0 ∷ 0 ∷ 2 ∷ 72 ∷ 80 ∷ 0 ∷ 0 ∷ 0 ∷ 0 ∷ 0 ∷ 0 ∷ 0 ∷ 67 ∷ 0 ∷ 0 ∷ 0 ∷ 0 ∷ 0 ∷ 0 ∷ 0 ∷ 0 ∷ 0 ∷ 0 ∷ 0 ∷ 53 ∷ 0 ∷ 0 ∷ 0 ∷ 0 ∷ 0 ∷ 0 ∷ 0 ∷ 0 ∷ 0 ∷ 0 ∷ 0 ∷ 0 ∷ 0 ∷ 49 ∷ 0 ∷ 0 ∷ 0 ∷ 77 ∷ 0 ∷ 0 ∷ 0 ∷ 0 ∷ 0 ∷ 0 ∷ 0 ∷ 0 ∷ 0 ∷ 0 ∷ 0 ∷ 0 ∷ 0 ∷ 0 ∷ 0 ∷ 0 ∷ 0 ∷ 0 ∷ 0 ∷ 0 ∷ 0 ∷ 0 ∷ 0 ∷ 0 ∷ 0 ∷ 0 ∷ 0 ∷ 0 ∷ 0 ∷ 0 ∷ 0 ∷ 0 ∷ 0 ∷ 0 ∷ 0 ∷ 19 ∷ 0 ∷ 0 ∷ 0 ∷ 0 ∷ 0 ∷ 0 ∷ 0 ∷ 0 ∷ 0 ∷ 0 ∷ 0 ∷ 0 ∷ 0 ∷ 0 ∷ 0 ∷ 0 ∷ 0 ∷ 36 ∷ 0 ∷ 0 ∷ 0 ∷ 0 ∷ 0 ∷ 0 ∷ 0 ∷ 0 ∷ 0 ∷ 57 ∷ 0 ∷ 0 ∷ 0 ∷ 0 ∷ 0 ∷ 0 ∷ 0 ∷ 3 ∷ 0 ∷ 0 ∷ 0 ∷ 0 ∷ 0 ∷ 0 ∷ 0 ∷ 0 ∷ 103 ∷ 0 ∷ 0 ∷ 71 ∷ 0 ∷ 0 ∷ 0 ∷ 0 ∷ 0 ∷ 0 ∷ 0 ∷ 0 ∷ 0 ∷ 101 ∷ 0 ∷ 0 ∷ 12 ∷ 0 ∷ 0 ∷ 0 ∷ 0 ∷ 0 ∷ 0 ∷ 25 ∷ 42 ∷ 0 ∷ 0 ∷ 0 ∷ 0 ∷ 0 ∷ 0 ∷ 0 ∷ 0 ∷ 0 ∷ 0 ∷ 0 ∷ 7 ∷ 11 ∷ 41 ∷ 0 ∷ 60 ∷ 10 ∷ 0 ∷ 0 ∷ 0 ∷ 28 ∷ 0 ∷ 0 ∷ 0 ∷ 0 ∷ 0 ∷ 102 ∷ 93 ∷ 0 ∷ 0 ∷ 0 ∷ 0 ∷ 0 ∷ 0 ∷ 0 ∷ 0 ∷ 0 ∷ 0 ∷ 8 ∷ 0 ∷ 0 ∷ 0 ∷ 0 ∷ 0 ∷ 0 ∷ 0 ∷ 0 ∷ 0 ∷ 0 ∷ 0 ∷ 0 ∷ 0 ∷ 0 ∷ 0 ∷ 0 ∷ 0 ∷ 0 ∷ 76 ∷ 0 ∷ 0 ∷ 0 ∷ 0 ∷ 0 ∷ 0 ∷ 0 ∷ 15 ∷ 91 ∷ 82 ∷ 0 ∷ 46 ∷ 0 ∷ 0 ∷ 0 ∷ 0 ∷ 0 ∷ 0 ∷ 0 ∷ 0 ∷ 61 ∷ 0 ∷ 84 ∷ 0 ∷ 0 ∷ 59 ∷ 0 ∷ 78 ∷ 94 ∷ 0 ∷ 0 ∷ 0 ∷ 0 ∷ 0 ∷ 0 ∷ 0 ∷ 0 ∷ 0 ∷ 0 ∷ 0 ∷ 0 ∷ 0 ∷ 0 ∷ 0 ∷ 0 ∷ 0 ∷ 0 ∷ 0 ∷ 0 ∷ 0 ∷ 0 ∷ 0 ∷ 0 ∷ 0 ∷ 0 ∷ 0 ∷ 0 ∷ 0 ∷ 0 ∷ 0 ∷ 0 ∷ 0 ∷ 88 ∷ 37 ∷ 0 ∷ 0 ∷ 75 ∷ 0 ∷ 0 ∷ 45 ∷ 0 ∷ 0 ∷ 0 ∷ 0 ∷ 0 ∷ 86 ∷ 0 ∷ 0 ∷ 0 ∷ 0 ∷ 0 ∷ 0 ∷ 44 ∷ 0 ∷ 0 ∷ 0 ∷ 0 ∷ 0 ∷ 16 ∷ 0 ∷ 51 ∷ 21 ∷ 0 ∷ 34 ∷ 0 ∷ 0 ∷ 0 ∷ 14 ∷ 0 ∷ 0 ∷ 0 ∷ 62 ∷ 50 ∷ 0 ∷ 0 ∷ 0 ∷ 38 ∷ 0 ∷ 0 ∷ 0 ∷ 0 ∷ 0 ∷ 0 ∷ 0 ∷ 0 ∷ 0 ∷ 73 ∷ 65 ∷ 43 ∷ 0 ∷ 52 ∷ 0 ∷ 0 ∷ 90 ∷ 22 ∷ 0 ∷ 0 ∷ 81 ∷ 69 ∷ 0 ∷ 0 ∷ 0 ∷ 0 ∷ 0 ∷ 0 ∷ 0 ∷ 0 ∷ 0 ∷ 0 ∷ 0 ∷ 0 ∷ 0 ∷ 92 ∷ 0 ∷ 0 ∷ 0 ∷ 0 ∷ 0 ∷ 0 ∷ 0 ∷ 0 ∷ 0 ∷ 0 ∷ 0 ∷ 0 ∷ 0 ∷ 0 ∷ 0 ∷ 0 ∷ 0 ∷ 0 ∷ 0 ∷ 0 ∷ 0 ∷ 0 ∷ 0 ∷ 0 ∷ 0 ∷ 0 ∷ 23 ∷ 0 ∷ 0 ∷ 0 ∷ 0 ∷ 0 ∷ 0 ∷ 0 ∷ 0 ∷ 0 ∷ 0 ∷ 0 ∷ 0 ∷ 0 ∷ 0 ∷ 0 ∷ 0 ∷ 0 ∷ 0 ∷ 0 ∷ 0 ∷ 0 ∷ 0 ∷ 0 ∷ 0 ∷ 0 ∷ 0 ∷ 74 ∷ 0 ∷ 0 ∷ 0 ∷ 0 ∷ 0 ∷ 0 ∷ 0 ∷ 0 ∷ 0 ∷ 0 ∷ 0 ∷ 0 ∷ 0 ∷ 0 ∷ 0 ∷ 0 ∷ 0 ∷ 0 ∷ 0 ∷ 0 ∷ 0 ∷ 0 ∷ 0 ∷ 0 ∷ 0 ∷ 0 ∷ 0 ∷ 0 ∷ 0 ∷ 0 ∷ 0 ∷ 54 ∷ 0 ∷ 0 ∷ 0 ∷ 0 ∷ 0 ∷ 0 ∷ 0 ∷ 0 ∷ 0 ∷ 0 ∷ 0 ∷ 0 ∷ 0 ∷ 0 ∷ 0 ∷ 0 ∷ 0 ∷ 0 ∷ 0 ∷ 0 ∷ 0 ∷ 39 ∷ 0 ∷ 70 ∷ 0 ∷ 0 ∷ 0 ∷ 0 ∷ 0 ∷ 0 ∷ 0 ∷ 0 ∷ 0 ∷ 0 ∷ 0 ∷ 0 ∷ 0 ∷ 0 ∷ 0 ∷ 0 ∷ 0 ∷ 0 ∷ 0 ∷ 0 ∷ 0 ∷ 0 ∷ 0 ∷ 0 ∷ 0 ∷ 0 ∷ 0 ∷ 0 ∷ 0 ∷ 0 ∷ 0 ∷ 0 ∷ 0 ∷ 0 ∷ 0 ∷ 0 ∷ 0 ∷ 0 ∷ 30 ∷ 0 ∷ 0 ∷ 0 ∷ 40 ∷ 0 ∷ 0 ∷ 0 ∷ 0 ∷ 0 ∷ 0 ∷ 0 ∷ 0 ∷ []
+-- THE WORDS, by the numbers of the arms, the last first
+abbrev earlyRows : List ℕ
+earlyRows = 32 ∷ 30 ∷ 26 ∷ 25 ∷ 24 ∷ 22 ∷ 21 ∷ 18 ∷ 17 ∷ 16 ∷ 15 ∷ 14 ∷ 11 ∷ 8 ∷ 7 ∷ 6 ∷ 5 ∷ 4 ∷ 3 ∷ 2 ∷ 1 ∷ 0 ∷ []
 
-pub places-long : length places ≡ 702
-unfolding places
-places-long = refl
+abbrev lateRows : List ℕ
+lateRows = 77 ∷ 76 ∷ 72 ∷ 69 ∷ 66 ∷ 63 ∷ 60 ∷ 58 ∷ 57 ∷ 56 ∷ 55 ∷ 54 ∷ 53 ∷ 52 ∷ 51 ∷ 47 ∷ 46 ∷ 45 ∷ 44 ∷ 42 ∷ 40 ∷ 39 ∷ 37 ∷ 36 ∷ 35 ∷ 34 ∷ 33 ∷ []
 
--- an entry is the place of its letters, and a byte
-unfoldable right : ℕ → ℕ → Bool
-right k x = eqb x (placeOf 1 (spelling k) symbols) && ltb x 256
+pub word-is : (row x : ℕ) → row ≡ x → getD words x 0 ≡ wordOf row
+unfolding wordOf
+word-is row x e = sym (ap (λ (k : ℕ). getD words k 0) e)
 
-all-right : every right 0 places ≡ true
-unfolding every right places placeOf spelling symbols sameBy any bytes blank gap consTo fields
+early-bare : below (bare wordOf earlyRows 0) 33 ≡ true
+unfolding below bare any wordOf words
+early-bare = refl
+
+late-bare : below (bare wordOf lateRows 33) 78 ≡ true
+unfolding below bare any wordOf words
+late-bare = refl
+
+pub early-gone : (row : ℕ) → row < 33 → Missed earlyRows row → 0 ≡ wordOf row
+early-gone row h m = gone wordOf earlyRows 0 33 early-bare row (omega arith) h m
+
+pub late-gone : (row : ℕ) → 33 ≤ row → row < 78 → Missed lateRows row → 0 ≡ wordOf row
+late-gone row l h m = gone wordOf lateRows 33 78 late-bare row l h m
+
+-- AN ENTRY is the place of its letters
+unfoldable right : ℕ → Bool
+right k = eqb (entryOf k) (placeOf 1 (spelling k) symbols)
+
+all-right : below right 702 ≡ true
+unfolding below right wordOf words placeOf spelling symbols sameBy any bytes blank gap consTo fields
 all-right = refl
 
-module _ (k : ℕ) (h : k < 702) where
-  entry-right : (eqb (getD places k 0) (placeOf 1 (spelling k) symbols) ≡ true) × (ltb (getD places k 0) 256 ≡ true)
-  unfolding right
-  entry-right = and-parts (eqb (getD places k 0) (placeOf 1 (spelling k) symbols)) (ltb (getD places k 0) 256) (at-each right places all-right k (rw places-long h))
+pub entry-place : (k w : ℕ) → k < 702 → w ≡ wordOf (k / 9) → w / 2 ^ (7 * (k % 9)) % 128 ≡ placeOf 1 (spelling k) symbols
+unfolding right
+entry-place k w h e =
+    ap (λ (v : ℕ). v / 2 ^ (7 * (k % 9)) % 128) e ∙ eqb-true (entryOf k) (placeOf 1 (spelling k) symbols) (at-below right 702 all-right k h)
 
-  pub entry-place : getD places k 0 ≡ placeOf 1 (spelling k) symbols
-  entry-place = eqb-true (getD places k 0) (placeOf 1 (spelling k) symbols) (entry-right .0)
+-- ONE LETTER, by its byte
+unfoldable pub lone : ℕ → ℕ
+lone letter = placeOf 1 (letter ∷ []) symbols
 
-  pub entry-byte : getD places k 0 < 256
-  entry-byte = ltb-true (getD places k 0) 256 (entry-right .1)
+abbrev loneLetters : List ℕ
+loneLetters = 89 ∷ 87 ∷ 86 ∷ 85 ∷ 83 ∷ 80 ∷ 79 ∷ 78 ∷ 75 ∷ 73 ∷ 72 ∷ 70 ∷ 67 ∷ 66 ∷ []
 
--- the elements of one letter, A to Z, by the same rule
-unfoldable pub singles : List ℕ
-singles = 0 ∷ 5 ∷ 6 ∷ 0 ∷ 0 ∷ 9 ∷ 0 ∷ 1 ∷ 53 ∷ 0 ∷ 19 ∷ 0 ∷ 0 ∷ 7 ∷ 8 ∷ 15 ∷ 0 ∷ 0 ∷ 16 ∷ 0 ∷ 92 ∷ 23 ∷ 74 ∷ 0 ∷ 39 ∷ 0 ∷ []
+lone-bare : below (bare lone loneLetters 0) 256 ≡ true
+unfolding below bare lone placeOf symbols sameBy any bytes blank gap consTo fields
+lone-bare = refl
 
-unfoldable single-right : ℕ → ℕ → Bool
-single-right k x = right (k * 27) x
+pub lone-is : (letter x n : ℕ) → letter ≡ x → lone x ≡ n → n ≡ placeOf 1 (letter ∷ []) symbols
+unfolding lone
+lone-is letter x n e f = sym (ap lone e ∙ f)
 
-all-single-right : every single-right 0 singles ≡ true
-unfolding every right single-right singles placeOf spelling symbols sameBy any bytes blank gap consTo fields
-all-single-right = refl
-
-module _ (k : ℕ) (h : k < 26) where
-  single-both : (eqb (getD singles k 0) (placeOf 1 (spelling (k * 27)) symbols) ≡ true) × (ltb (getD singles k 0) 256 ≡ true)
-  unfolding right single-right singles
-  single-both = and-parts (eqb (getD singles k 0) (placeOf 1 (spelling (k * 27)) symbols)) (ltb (getD singles k 0) 256) (at-each single-right singles all-single-right k h)
-
-  pub single-place : getD singles k 0 ≡ placeOf 1 (spelling (k * 27)) symbols
-  single-place = eqb-true (getD singles k 0) (placeOf 1 (spelling (k * 27)) symbols) (single-both .0)
-
-  pub single-byte : getD singles k 0 < 256
-  single-byte = ltb-true (getD singles k 0) 256 (single-both .1)
+pub lone-gone : (letter : ℕ) → letter < 256 → Missed loneLetters letter → 0 ≡ placeOf 1 (letter ∷ []) symbols
+unfolding lone
+lone-gone letter h m = gone lone loneLetters 0 256 lone-bare letter (omega arith) h m

@@ -1,24 +1,45 @@
--- A rule of a table, computed once over all of its entries, holds at each of them. Over any table of numbers and any test. Assumes nothing.
-use mathlib.Core.Path.{_≡_, sym, ap, _∙_}
-use mathlib.Core.Bool.{Bool, true, _&&_}
+-- A rule that is computed once for all numbers below a bound holds at each of them; and what the last arm of a `match` says of its number. Assumes nothing.
+use mathlib.Core.Path.{_≡_, refl, sym, ap, _∙_}
+use mathlib.Core.Bool.{Bool, true, false, _&&_, _||_}
 use mathlib.Core.List.{List, [], _∷_}
-use Prim.Native.Nat.{ℕ, zero, suc, _+_, _<_}
-use native.Mathlib.Nat.{zero-add, add-zero, add-suc, suc-add, le-of-suc-le-suc, not-suc-le-zero}
-use lib.ListN.{length, getD}
+use Prim.Native.Nat.{ℕ, zero, suc, _≤_, _<_}
+use native.Mathlib.Omega.{arith}
+use lib.Dec.{eqb, ltb}
+use borrow.Author.Tests.{ne-eqb, le-ltb, eqb-true, eqb-false}
+use Rattle.lists.specs.Lists.{any}
 use Rattle.lists.proofs.Bools.{and-parts}
+use Rattle.format.specs.Bytes.{isIn}
 
--- the test passes at each entry and its place, counted from i
-unfoldable pub every : (ℕ → ℕ → Bool) → ℕ → List ℕ → Bool
-every f i [] = true
-every f i (x ∷ xs) = f i x && every f (suc i) xs
+-- whether a test passes at each number below n
+unfoldable pub below : (ℕ → Bool) → ℕ → Bool
+below f zero = true
+below f (suc n) = f n && below f n
 
-entry-from : (f : ℕ → ℕ → Bool) (xs : List ℕ) (i : ℕ) → every f i xs ≡ true → (k : ℕ) → k < length xs → f (i + k) (getD xs k 0) ≡ true
-unfolding every
-entry-from f [] i t k h = absurd (not-suc-le-zero h)
-entry-from f (x ∷ xs) i t zero h = ap (λ (m : ℕ). f m x) (add-zero i) ∙ and-parts (f i x) (every f (suc i) xs) t .0
-entry-from f (x ∷ xs) i t (suc k) h =
-    ap (λ (m : ℕ). f m (getD xs k 0)) (add-suc i k ∙ sym (suc-add i k))
-    ∙ entry-from f xs (suc i) (and-parts (f i x) (every f (suc i) xs) t .1) k (le-of-suc-le-suc h)
+pub at-below : (f : ℕ → Bool) (n : ℕ) → below f n ≡ true → (k : ℕ) → k < n → f k ≡ true
+unfolding below
+at-below f zero h k l = absurd (omega arith)
+at-below f (suc n) h k l = go (eqb k n) refl (and-parts (f n) (below f n) h .0) (at-below f n (and-parts (f n) (below f n) h .1) k)
+  where
+    go : (t : Bool) → eqb k n ≡ t → f n ≡ true → (k < n → f k ≡ true) → f k ≡ true
+    go true e p ih = ap f (eqb-true k n e) ∙ p
+    go false e p ih = ih (omega (arith, eqb-false k n e))
 
-pub at-each : (f : ℕ → ℕ → Bool) (xs : List ℕ) → every f 0 xs ≡ true → (k : ℕ) → k < length xs → f k (getD xs k 0) ≡ true
-at-each f xs t k h = ap (λ (m : ℕ). f m (getD xs k 0)) (sym (zero-add k)) ∙ entry-from f xs 0 t k h
+-- the last arm: the number is none of those before, the last of them first
+abbrev pub Missed : List ℕ → ℕ → Type 0
+Missed [] k = Unit {0}
+Missed (x ∷ xs) k = Missed xs k × (k ≡ x → ⊥)
+
+missed : (xs : List ℕ) (k : ℕ) → Missed xs k → isIn k xs ≡ false
+unfolding any
+missed [] k m = refl
+missed (x ∷ xs) k m = rw (ne-eqb k x (m .1), missed xs k (m .0))
+
+-- whether a number from `low` on that is not among those of the arms has 0
+unfoldable pub bare : (ℕ → ℕ) → List ℕ → (low k : ℕ) → Bool
+bare f xs low k = isIn k xs || (ltb k low || eqb (f k) 0)
+
+pub gone : (f : ℕ → ℕ) (xs : List ℕ) (low high : ℕ) → below (bare f xs low) high ≡ true → (k : ℕ) → low ≤ k → k < high → Missed xs k → 0 ≡ f k
+unfolding bare
+gone f xs low high a k l h m =
+    let b : (isIn k xs || (ltb k low || eqb (f k) 0)) ≡ true = at-below (bare f xs low) high a k h in
+    sym (eqb-true (f k) 0 (sym (rw (missed xs k m, le-ltb k low l)) ∙ b))

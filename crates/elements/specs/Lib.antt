@@ -1,3 +1,4 @@
 -- What the answers of this crate's functions say, in the terms of format/specs, file by file. Assumes nothing.
 pub mod Spelling
+pub mod Words
 pub mod Shown

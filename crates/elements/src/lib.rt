@@ -1,16 +1,16 @@
 // The element and the mass of a symbol: document 01, "Rows", ATOMLIST.
-mod places; // places.rt: the table of elements by their letters
+mod places; // places.rt: the elements by their letters
 
 ghost use mathlib.Core.Path.{_≡_};
 ghost use mathlib.Core.Bool.{false};
-ghost use Prim.Native.Nat.{_*_, _<_};
+ghost use mathlib.Core.List.{[], _∷_};
 ghost use lib.ListN.{take};
 ghost use Rattle.format.specs.Rows.{symOf};
 ghost use Rattle.format.specs.Structure.{symbols, placeOf, letters, isotope, massOk, heavy};
-ghost use Rattle.elements.specs.Spelling.{spelling, upTo};
+ghost use Rattle.elements.specs.Spelling.{upTo};
 ghost use Rattle.symbols.specs.ShownSymbols.{symOfMark};
 ghost use Rattle.elements.specs.Shown.{isotopeShown};
-use crate::places::PLACES;
+use crate::places::entry_at;
 use symbols::Mark;
 
 // An element (0 unknown) and a mass (0 none).
@@ -19,51 +19,27 @@ pub struct Isotope {
     pub mass: u32,
 }
 
-// "Symbols are those of elements 1 (H) to 103 (Lr)": those of one letter, A to Z; 0 where no element has it. A table is put on the stack where it is read, and most
-// atoms have one letter, so that they are not looked up among the 702.
-const LETTERS: [u8; 26] = [
-    0,
-    5,
-    6,
-    0,
-    0,
-    9,
-    0,
-    1,
-    53,
-    0,
-    19,
-    0,
-    0,
-    7,
-    8,
-    15,
-    0,
-    0,
-    16,
-    0,
-    92,
-    23,
-    74,
-    0,
-    39,
-    0,
-];
-
-// The element whose one letter has the number k, 0 for A.
-fn letter_at(k: usize) -> u32
-    requires { ⌜ k < 26 ⌝ }
-    ensures { λ r. ⌜ r ≡ placeOf 1 (spelling (k * 27)) symbols ⌝ }
+// "Symbols are those of elements 1 (H) to 103 (Lr)": the element of one letter; 0 where there is none. Most atoms have one letter.
+fn letter_element(letter: u8) -> u32
+    ensures { λ r. ⌜ r ≡ placeOf 1 (letter ∷ []) symbols ⌝ }
 {
-    LETTERS[k] as u32
-}
-
-// The element whose letters have the number k: the upper-case letter's place times 27, and the lower-case letter's (0 where there is none).
-fn entry_at(k: usize) -> u32
-    requires { ⌜ k < 702 ⌝ }
-    ensures { λ r. ⌜ r ≡ placeOf 1 (spelling k) symbols ⌝ }
-{
-    PLACES[k] as u32
+    match letter {
+        66 => 5,
+        67 => 6,
+        70 => 9,
+        72 => 1,
+        73 => 53,
+        75 => 19,
+        78 => 7,
+        79 => 8,
+        80 => 15,
+        83 => 16,
+        85 => 92,
+        86 => 23,
+        87 => 74,
+        89 => 39,
+        _ => 0,
+    }
 }
 
 // An element that is among the first `last`, or 0.
@@ -77,15 +53,14 @@ fn among(element: u32, last: u32) -> u32
 fn element_of(first: u8, second: u8, last: u32) -> u32
     ensures { λ r. ⌜ r ≡ placeOf 1 (letters (symOf false 0 first second)) (take last symbols) ⌝ }
 {
+    if second == 0 {
+        return among(letter_element(first), last);
+    }
     if first < 65 {
         return 0;
     }
     if 90 < first {
         return 0;
-    }
-    let letter = first as usize - 65;
-    if second == 0 {
-        return among(letter_at(letter), last);
     }
     if second < 97 {
         return 0;
@@ -93,6 +68,7 @@ fn element_of(first: u8, second: u8, last: u32) -> u32
     if 122 < second {
         return 0;
     }
+    let letter = first as usize - 65;
     among(entry_at(letter * 27 + (second as usize - 96)), last)
 }
 
@@ -115,13 +91,12 @@ pub fn isotope_of(mark: Mark, last: u32) -> Isotope
 {
     let first = mark.first;
     let second = mark.second;
-    let element = element_of(first, second, last);
-    let named = Isotope {
-        element,
-        mass: mark.mass,
-    };
+    let mass = mark.mass; // 0 where there is none
     if second != 0 {
-        return named;
+        return Isotope {
+            element: element_of(first, second, last),
+            mass,
+        };
     }
     if first == 68 {
         return heavy_hydrogen(mark.caret, 2);
@@ -129,7 +104,10 @@ pub fn isotope_of(mark: Mark, last: u32) -> Isotope
     if first == 84 {
         return heavy_hydrogen(mark.caret, 3);
     }
-    named
+    Isotope {
+        element: element_of(first, second, last),
+        mass,
+    }
 }
 
 // Whether the mass is in its range: "mass 1 to 300".
