@@ -1,6 +1,6 @@
 -- The labels seen by code, and the top of their intervals, tell which labels are out of order: document 01, "Lines and labels". Assumes nothing.
-use Prim.Native.Nat.{ℕ, zero, suc, _+_, _≤_, _<_, max}
-use mathlib.Core.Path.{_≡_, refl, sym, ap, _∙_}
+use Prim.Native.Nat.{ℕ, zero, suc, _+_, _*_, _/_, _%_, _^_, _≤_, _<_, max}
+use mathlib.Core.Path.{_≡_, refl, sym, ap, ap₂, _∙_}
 use mathlib.Core.Bool.{Bool, true, false, _||_, not}
 use mathlib.Core.List.{List, [], _∷_}
 use native.Mathlib.Omega.{arith}
@@ -16,14 +16,14 @@ use Rattle.labels.specs.ShownLines.{byCode}
 use Rattle.sorted.specs.Regions.{mark, sawCode, seenFrom, topOf}
 
 -- WHERE THE INTERVALS BEGIN AND END, by code
-abbrev pub lows : List ℕ
-lows = 0 ∷ 1 ∷ 2 ∷ 3 ∷ 4 ∷ 5 ∷ 6 ∷ 7 ∷ 8 ∷ 9 ∷ 9 ∷ 9 ∷ 3 ∷ 10 ∷ []
+abbrev pub lowAt : ℕ → ℕ
+lowAt c = 46049301303144976 / 2 ^ (4 * c) % 16
 
-abbrev pub highs : List ℕ
-highs = 10 ∷ 1 ∷ 2 ∷ 3 ∷ 4 ∷ 5 ∷ 6 ∷ 7 ∷ 8 ∷ 9 ∷ 9 ∷ 9 ∷ 9 ∷ 10 ∷ []
+abbrev pub highAt : ℕ → ℕ
+highAt c = 47738151163408922 / 2 ^ (4 * c) % 16
 
 abbrev pub Told : ℕ → Type 0
-Told c = (byCode c known .code ≡ c) × (byCode c known .low ≡ getD lows c 0) × (byCode c known .high ≡ getD highs c 0)
+Told c = (byCode c known .code ≡ c) × (lowAt c ≡ byCode c known .low) × (highAt c ≡ byCode c known .high)
 
 pub known-told : (c : ℕ) → c < 14 → Told c
 unfolding byCode known label lookup
@@ -97,20 +97,19 @@ unfolding misplaced
 misplaced-is seen x =
     any-or (λ y. eqb (y .code) (x .code)) (λ y. ltb (x .high) (y .low)) seen ∙ ap (λ (t : Bool). sawCode (x .code) seen || t) (top-any (x .high) seen)
 
-pub misplaced-code : (seen : List Label) (c : ℕ) → c < 14 → misplaced seen (byCode c known) ≡ (sawCode c seen || ltb (getD highs c 0) (topOf seen))
-misplaced-code seen c h =
-    let t = known-told c h in
-    misplaced-is seen (byCode c known) ∙ ap (λ (n : ℕ). sawCode n seen || ltb (byCode c known .high) (topOf seen)) (t .0) ∙ ap (λ (n : ℕ). sawCode c seen || ltb n (topOf seen)) (t .2)
+pub misplaced-code : (seen : List Label) (c : ℕ) → c < 14 → misplaced seen (byCode c known) ≡ (sawCode c seen || ltb (byCode c known .high) (topOf seen))
+misplaced-code seen c h = misplaced-is seen (byCode c known) ∙ ap (λ (n : ℕ). sawCode n seen || ltb (byCode c known .high) (topOf seen)) (known-told c h .0)
 
 pub seen-again : (cells : List ℕ) (seen : List Label) (c : ℕ) → c < 14 → cells ≡ seenFrom 14 0 seen → (getD cells c 0 ≡ 0 → ⊥) → true ≡ misplaced seen (byCode c known)
 seen-again cells seen c h e n =
     let s : sawCode c seen ≡ true = mark-one (sawCode c seen) (λ z. n (seen-at cells seen c e h ∙ z)) in
-    sym (misplaced-code seen c h ∙ or-left (sawCode c seen) (ltb (getD highs c 0) (topOf seen)) s)
+    sym (misplaced-code seen c h ∙ or-left (sawCode c seen) (ltb (byCode c known .high) (topOf seen)) s)
 
-pub order-told : (cells : List ℕ) (seen : List Label) (c top : ℕ) → c < 14 → cells ≡ seenFrom 14 0 seen → top ≡ topOf seen → getD cells c 0 ≡ 0 → ltb (getD highs c 0) top ≡ misplaced seen (byCode c known)
-order-told cells seen c top h e t z =
+pub order-told : (cells : List ℕ) (seen : List Label) (c top high : ℕ) → c < 14 → cells ≡ seenFrom 14 0 seen → top ≡ topOf seen → getD cells c 0 ≡ 0 → high ≡ byCode c known .high →
+    ltb high top ≡ misplaced seen (byCode c known)
+order-told cells seen c top high h e t z k =
     let s : sawCode c seen ≡ false = mark-zero (sawCode c seen) (sym (seen-at cells seen c e h) ∙ z) in
-    ap (λ (n : ℕ). ltb (getD highs c 0) n) t ∙ sym (misplaced-code seen c h ∙ ap (λ (b : Bool). b || ltb (getD highs c 0) (topOf seen)) s)
+    ap₂ ltb k t ∙ sym (misplaced-code seen c h ∙ ap (λ (b : Bool). b || ltb (byCode c known .high) (topOf seen)) s)
 
 -- A LABEL NOTED
 other-code : (k c : ℕ) (x : Label) (seen : List Label) → x .code < c → seenFrom k c (x ∷ seen) ≡ seenFrom k c seen
@@ -148,15 +147,16 @@ module _ (cells : List ℕ) (seen : List Label) (c top : ℕ) (e : cells ≡ see
         let q : byCode c known .code ≡ 0 + c = known-told c h .0 ∙ omega arith in
         ap (λ (l : List ℕ). set l c 1) e ∙ noted-from 14 0 c (byCode c known) seen q h ∙ ap (seenFrom 14 0) (sym (noted-more c (byCode c known) seen n))
 
-    note-top : (m : ℕ) → m ≡ max (getD lows c 0) (topOf seen) → m ≡ topOf (noted c (byCode c known) seen)
-    unfolding topOf
-    note-top m q = q ∙ ap (λ (l : ℕ). max l (topOf seen)) (sym (known-told c h .1)) ∙ ap topOf (sym (noted-more c (byCode c known) seen n))
+    module _ (low : ℕ) (k : low ≡ byCode c known .low) where
+      note-top : (m : ℕ) → m ≡ max low (topOf seen) → m ≡ topOf (noted c (byCode c known) seen)
+      unfolding topOf
+      note-top m q = q ∙ ap (λ (l : ℕ). max l (topOf seen)) k ∙ ap topOf (sym (noted-more c (byCode c known) seen n))
 
-    pub note-higher : top < getD lows c 0 → Noted (set cells c 1) (getD lows c 0) c seen
-    note-higher l = (note-cells, note-top (getD lows c 0) (omega arith))
+      pub note-higher : top < low → Noted (set cells c 1) low c seen
+      note-higher l = (note-cells, note-top low (omega arith))
 
-    pub note-lower : getD lows c 0 ≤ top → Noted (set cells c 1) top c seen
-    note-lower l = (note-cells, note-top top (omega arith))
+      pub note-lower : low ≤ top → Noted (set cells c 1) top c seen
+      note-lower l = (note-cells, note-top top (omega arith))
 
 -- A RECORD MISSING
 pub lacking-is : (cells : List ℕ) (seen : List Label) → cells ≡ seenFrom 14 0 seen →

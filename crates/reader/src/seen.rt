@@ -9,10 +9,29 @@ ghost use Rattle.format.specs.Reading.{noted, lacks};
 ghost use Rattle.labels.specs.ShownLines.{byCode};
 ghost use Rattle.sorted.specs.Regions.{seenFrom, topOf};
 
-// Where the interval of each label begins and ends, by code; b must follow a where a's interval ends before b's begins.
-const LOW: [u32; 14] = [0, 1, 2, 3, 4, 5, 6, 7, 8, 9, 9, 9, 3, 10];
+// Where the interval of each label begins and ends, four bits a code; b must follow a where a's interval ends before b's begins. One number, since a table would be
+// laid out anew at each use.
+const LOWS: u64 = 46049301303144976;
 
-const HIGH: [u32; 14] = [10, 1, 2, 3, 4, 5, 6, 7, 8, 9, 9, 9, 9, 10];
+const HIGHS: u64 = 47738151163408922;
+
+// Where the label's interval begins.
+fn low_of(code: usize) -> u32
+    requires { ⌜ code < 14 ⌝ }
+    ensures { λ r. ⌜ r ≡ byCode code known .low ⌝ }
+{
+    let shift = 4 * code as u64;
+    ((LOWS >> shift) % 16) as u32
+}
+
+// Where the label's interval ends.
+fn high_of(code: usize) -> u32
+    requires { ⌜ code < 14 ⌝ }
+    ensures { λ r. ⌜ r ≡ byCode code known .high ⌝ }
+{
+    let shift = 4 * code as u64;
+    ((HIGHS >> shift) % 16) as u32
+}
 
 // "Each at most once. A label is out of order if a known label that must follow it has been seen."
 pub fn out_of_order(seen: &[u32], top: u32, code: usize) -> bool
@@ -22,7 +41,7 @@ pub fn out_of_order(seen: &[u32], top: u32, code: usize) -> bool
     if seen[code] != 0 {
         return true;
     }
-    HIGH[code] < top
+    high_of(code) < top
 }
 
 // The label is noted among those seen, an unknown one is not; the answer is the new top.
@@ -35,7 +54,7 @@ pub fn note(seen: &mut [u32], top: u32, code: usize) -> u32
         return top;
     }
     seen[code] = 1;
-    let low = LOW[code];
+    let low = low_of(code);
     if top < low {
         return low;
     }

@@ -7,7 +7,7 @@ use Rattle.reader.proofs.seen.note.Statement.{statement}
 use Rattle.reader.proofs.seen.note.Tie as tie
 
 returns : tie.Need-returns
-returns c = (c .before .pre .0, λ labels e t. note-none _ labels _ _ e t (c .if1 .taken))
+returns c = (c .before .before .pre .0, λ labels e t. note-none _ labels _ _ e t (c .if1 .taken))
 
 mul-seen : tie.Need-mul-seen
 mul-seen c = search needs
@@ -15,23 +15,20 @@ mul-seen c = search needs
 slice-write-seen : tie.Need-slice-write-seen
 slice-write-seen c = search needs
 
-mul-low : tie.Need-mul-low
-mul-low c = search needs
-
-array-read-low : tie.Need-array-read-low
-array-read-low c = search needs
+low-of-requires : tie.Need-low-of-requires
+low-of-requires c κs = search needs
 
 same-length : tie.Need-same-length
 same-length c = search needs
 
 returns-2 : tie.Need-returns-2
-returns-2 c = (length-set (c .before .before .args .seen .now) (c .before .before .args .code) 1 ∙ c .before .before .pre .0, λ labels e t. note-higher _ labels _ _ e t (c .before .before .pre .1) (c .before .if1 .left) (c .if2 .taken))
+returns-2 c = (length-set (c .before .before .before .before .args .seen .now) (c .before .before .before .before .args .code) 1 ∙ c .before .before .before .before .pre .0, λ labels e t. note-higher _ labels _ _ e t (c .before .before .before .before .pre .1) (c .before .before .if1 .left) _ (c .before .low-of .ensures) (c .if2 .taken))
 
 same-length-2 : tie.Need-same-length-2
 same-length-2 c = search needs
 
 returns-3 : tie.Need-returns-3
-returns-3 c = (length-set (c .before .before .args .seen .now) (c .before .before .args .code) 1 ∙ c .before .before .pre .0, λ labels e t. note-lower _ labels _ _ e t (c .before .before .pre .1) (c .before .if1 .left) (c .if2 .left))
+returns-3 c = (length-set (c .before .before .before .before .args .seen .now) (c .before .before .before .before .args .code) 1 ∙ c .before .before .before .before .pre .0, λ labels e t. note-lower _ labels _ _ e t (c .before .before .before .before .pre .1) (c .before .before .if1 .left) _ (c .before .low-of .ensures) (c .if2 .left))
 
 pub note-spec : {M : Type 1} → statement M
 note-spec =
@@ -40,8 +37,7 @@ note-spec =
     returns
     mul-seen
     slice-write-seen
-    mul-low
-    array-read-low
+    low-of-requires
     same-length
     returns-2
     same-length-2

@@ -11,18 +11,14 @@ shared-slice-read-if1 : tie.Need-shared-slice-read-if1
 shared-slice-read-if1 c = search needs
 
 returns : tie.Need-returns
-returns c = λ labels e t. seen-again _ labels _ (c .before .before .pre .1) e (c .if1 .taken)
+returns c = λ labels e t. seen-again _ labels _ (c .before .before .before .pre .1) e (c .if1 .taken)
 
-mul-result : tie.Need-mul-result
-mul-result c = search needs
-
-array-read-result : tie.Need-array-read-result
-array-read-result c = search needs
+high-of-requires : tie.Need-high-of-requires
+high-of-requires c κs = search needs
 
 returns-2 : tie.Need-returns-2
-returns-2 c = λ labels e t. order-told _ labels _ _ (c .before .before .pre .1) e t (c .if1 .left)
+returns-2 c = λ labels e t. order-told _ labels _ _ _ (c .before .before .before .before .pre .1) e t (c .before .if1 .left) (c .high-of .ensures)
 
 pub out-of-order-spec : {M : Type 1} → statement M
 out-of-order-spec =
-    tie.close
-    (tie.spec mul-if1 shared-slice-read-if1 returns mul-result array-read-result returns-2)
+    tie.close (tie.spec mul-if1 shared-slice-read-if1 returns high-of-requires returns-2)
