@@ -1,7 +1,7 @@
 -- Where a line ends and where its comment starts, by an index: what the loops over one line cite. Serves document 01, "Lines and labels". Assumes nothing.
-use Prim.Native.Nat.{ℕ, suc, _+_, _≤_, _<_}
+use Prim.Native.Nat.{ℕ, zero, suc, _+_, _-_, _%_, _≤_, _<_}
 use mathlib.Core.Path.{_≡_, sym, ap, _∙_}
-use mathlib.Core.Bool.{Bool, true, false, _&&_}
+use mathlib.Core.Bool.{Bool, true, false, _&&_, and-true, and-assoc}
 use mathlib.Core.List.{[], _∷_}
 use native.Mathlib.Nat.{add-zero}
 use native.Mathlib.Numerals.{add-one}
@@ -9,15 +9,15 @@ use native.Mathlib.Omega.{arith}
 use lib.ListN.{length, getD, take, drop, length-drop, drop-of-length-le}
 use lib.Seq.{drop-cons}
 use lib.Dec.{leb}
-use borrow.Author.Tests.{eq-eqb, ne-eqb, le-leb}
+use borrow.Author.Tests.{eq-eqb, ne-eqb, le-leb, leb-true}
 use Rattle.lists.specs.Lists.{all}
-use Rattle.lists.proofs.Bools.{and-left-false, and-right-false, or-right}
-use Rattle.lists.proofs.ListLaws.{all-nil, all-in, all-out, all-both}
+use Rattle.lists.proofs.Bools.{both-ways, and-left-false, and-right-false, or-right}
+use Rattle.lists.proofs.ListLaws.{all-nil, all-cons, all-in, all-out, all-both, all-parts}
 use Rattle.format.specs.Bytes.{Bytes, blank, gap, within, allowed, lineLen, headIs, dollar, strip}
 use Rattle.format.proofs.CutLaws.{len-hit, len-miss, len-at-hit, len-at-miss, len-at-end, lineLen-le, lineLen-pos}
-use Rattle.format.proofs.ByteLaws.{strip-two, strip-on, strip-take, strip-le}
+use Rattle.format.proofs.ByteLaws.{within-true, within-is, strip-two, strip-on, strip-take, strip-le}
 use Rattle.lines.specs.Cuts.{LineEnd, comment, Uncommented}
-use Rattle.lines.specs.Looks.{lineFrom, CleanEnd}
+use Rattle.lines.specs.Looks.{lineFrom, Looking, CleanEnd}
 
 -- THE LINE'S END
 pub ends : (s : Bytes) (at r : ℕ) → r ≡ at + lineLen (drop at s) → LineEnd s at r
@@ -58,10 +58,7 @@ module _ (s : Bytes) (i : ℕ) where
 pub uncomments : (s : Bytes) (r : ℕ) → r ≡ length (strip s) → Uncommented s r
 uncomments s r e = record { is = e; part = strip-take s ∙ ap (λ (n : ℕ). take n s) (sym e); high = omega (arith, strip-le s) }
 
--- A LINE OF ALLOWED BYTES, byte by byte: seen from `i` the line that starts at `at` ends at the same place and is as clean
-abbrev pub Looking : Bytes → (at i : ℕ) → Type 0
-Looking s at i = (at + lineLen (drop at s) ≡ i + lineLen (drop i s)) × (all allowed (lineFrom s at) ≡ all allowed (lineFrom s i))
-
+-- A LINE OF ALLOWED BYTES, byte by byte
 printed : (b : ℕ) → 32 ≤ b → leb b 126 ≡ true → allowed b ≡ true
 unfolding allowed within
 printed b l g = or-right (gap b) (leb 32 b && leb b 126) (rw (le-leb _ _ l, g))
@@ -99,3 +96,44 @@ module _ (s : Bytes) (at i : ℕ) (k : Looking s at i) where
     -- a byte from 32 to 126
     pub looks-past : 32 ≤ getD s i 0 → leb (getD s i 0) 126 ≡ true → Looking s at (i + 1)
     looks-past l g = looks-on (λ e. omega arith) (printed (getD s i 0) l g)
+
+-- BYTES FROM 32 TO 126, several at a time
+pub plain-test : (b : ℕ) → b < 256 → leb ((b + 224) % 256) 94 ≡ within 32 126 b
+plain-test b l = both-ways (leb ((b + 224) % 256) 94) (within 32 126 b) fore back
+  where
+    fore : leb ((b + 224) % 256) 94 ≡ true → within 32 126 b ≡ true
+    fore e = let q : (b + 224) % 256 ≤ 94 = leb-true ((b + 224) % 256) 94 e in within-is 32 126 b (omega arith) (omega arith)
+
+    back : within 32 126 b ≡ true → leb ((b + 224) % 256) 94 ≡ true
+    back e = let q = within-true 32 126 b e in le-leb ((b + 224) % 256) 94 (omega arith)
+
+module _ (b : ℕ) (before : Bool) where
+  pub plain-out : within 32 126 b ≡ false → false ≡ (before && within 32 126 b)
+  plain-out h = sym (and-right-false before (within 32 126 b) h)
+
+  pub plain-in : within 32 126 b ≡ true → before ≡ (before && within 32 126 b)
+  plain-in h = rw h (sym (and-true before))
+
+module _ (s : Bytes) (i : ℕ) where
+  pub plain-turn : i < length s → (fine next : Bool) → next ≡ (fine && within 32 126 (getD s i 0)) →
+      (fine && all (within 32 126) (drop i s)) ≡ (next && all (within 32 126) (drop (i + 1) s))
+  plain-turn h fine next e =
+      let rest : Bool = all (within 32 126) (drop (i + 1) s) in
+      let q : all (within 32 126) (drop i s) ≡ (within 32 126 (getD s i 0) && rest) =
+      ap (all (within 32 126)) (drop-cons s i 0 h) ∙ all-cons (within 32 126) (getD s i 0) (drop (suc i) s) ∙ rw add-one in
+      ap (λ (b : Bool). fine && b) q ∙ sym (and-assoc fine (within 32 126 (getD s i 0)) rest) ∙ ap (λ (b : Bool). b && rest) (sym e)
+
+  pub plain-end : length s ≤ i → (fine : Bool) → (fine && all (within 32 126) (drop i s)) ≡ fine
+  plain-end h fine =
+      ap (λ (b : Bool). fine && b) (ap (all (within 32 126)) (drop-of-length-le s h) ∙ all-nil (within 32 126)) ∙ and-true fine
+
+looks-over : (s : Bytes) (at i n j : ℕ) → j ≡ i + n → j ≤ length s → all (within 32 126) (take n (drop i s)) ≡ true → Looking s at i → Looking s at j
+looks-over s at i zero j e h a k = let q : j ≡ i = omega arith in rw q k
+looks-over s at i (suc n) j e h a k =
+    let q : take (suc n) (drop i s) ≡ getD s i 0 ∷ take n (drop (i + 1) s) = rw (drop-cons s i 0 (omega arith), add-one) in
+    let p = all-parts (within 32 126) (getD s i 0) (take n (drop (i + 1) s)) (ap (all (within 32 126)) (sym q) ∙ a) in
+    let w = within-true 32 126 (getD s i 0) (p .0) in
+    looks-over s at (i + 1) n j (omega arith) h (p .1) (looks-past s at i k (omega arith) (w .0) (le-leb _ _ (w .1)))
+
+pub looks-far : (s : Bytes) (at i j : ℕ) → Looking s at i → i ≤ j → j ≤ length s → all (within 32 126) (take (j - i) (drop i s)) ≡ true → Looking s at j
+looks-far s at i j k l h a = looks-over s at i (j - i) j (omega arith) h a k

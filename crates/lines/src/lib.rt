@@ -1,4 +1,6 @@
 // Lines of a block, and what one line holds.
+mod plain; // plain.rt: bytes from 32 to 126, eight at a time
+
 ghost use mathlib.Core.Path.{_≡_};
 ghost use Prim.Native.Nat.{_<_};
 ghost use lib.ListN.{length, drop};
@@ -6,6 +8,7 @@ ghost use Rattle.lists.specs.Lists.{all};
 ghost use Rattle.format.specs.Bytes.{allowed, gap};
 ghost use Rattle.lines.specs.Cuts.{comment, LineEnd, Uncommented};
 ghost use Rattle.lines.specs.Looks.{ShowsLooked};
+use crate::plain::plain_to;
 
 // Where a line of allowed bytes ends; or that a byte of it is not allowed.
 pub enum Looked {
@@ -17,7 +20,7 @@ pub enum Looked {
 pub fn line_end(block: &[u8], at: usize) -> usize
     ensures { λ r. ⌜ LineEnd (now (block .entry)) at r ⌝ }
 {
-    let mut i = at;
+    let mut i = plain_to(block, at);
     while i < block.len() {
         if block[i] == 10 {
             return i + 1;
@@ -27,11 +30,11 @@ pub fn line_end(block: &[u8], at: usize) -> usize
     i
 }
 
-// Where the line that starts at `at` ends, if each byte of it is allowed: "Allowed bytes: 9, 10, 13 and 32 to 126." One pass for both; most bytes end at the first test.
+// Where the line that starts at `at` ends, if each byte of it is allowed: "Allowed bytes: 9, 10, 13 and 32 to 126." One pass for both; most bytes are passed eight at a time.
 pub fn clean_end(block: &[u8], at: usize) -> Looked
     ensures { λ r. ⌜ ShowsLooked (now (block .entry)) at r ⌝ }
 {
-    let mut i = at;
+    let mut i = plain_to(block, at);
     while i < block.len() {
         let b = block[i];
         i += 1;

@@ -1,10 +1,11 @@
 -- `lines::clean_end` meets its contract: where the line ends and whether its bytes are allowed stay the same from byte to byte. Assumes nothing.
 use Prim.Native.Nat.{_-_}
-use mathlib.Core.Path.{refl, sym, _∙_}
+use mathlib.Core.Path.{sym, _∙_}
 use borrow.Author.Needs.{needs}
 use borrow.Author.Tests.{not-true, not-false}
 use lib.ListN.{length}
-use Rattle.lines.proofs.LineLaws.{Looking, looked-all, looked-feed, looked-wrong, looks-on, looks-past}
+use Rattle.lines.specs.Looks.{Looking}
+use Rattle.lines.proofs.LineLaws.{looked-all, looked-feed, looked-wrong, looks-on, looks-past}
 use Rattle.lines.proofs.clean_end.Statement.{statement}
 use Rattle.lines.proofs.clean_end.Tie as tie
 
@@ -14,8 +15,11 @@ Inv-loop block at i₀ i = Looking block at i
 abbrev μ-loop : tie.MeasureT-loop
 μ-loop block at i₀ i = length block - i
 
+plain-to-requires : tie.Need-plain-to-requires Inv-loop μ-loop
+plain-to-requires c κs = search needs
+
 loop-holds : tie.Need-loop-holds Inv-loop μ-loop
-loop-holds c = (refl, refl)
+loop-holds c = c .plain-to .ensures
 
 shared-slice-read-b : tie.Need-shared-slice-read-b Inv-loop μ-loop
 shared-slice-read-b c = search needs
@@ -53,6 +57,7 @@ clean-end-spec =
     (tie.spec
     Inv-loop
     μ-loop
+    plain-to-requires
     loop-holds
     shared-slice-read-b
     add-i

@@ -1,6 +1,6 @@
 -- `lines::line_end` meets its contract. Assumes nothing.
 use Prim.Native.Nat.{_+_, _-_}
-use mathlib.Core.Path.{_≡_, refl, sym, _∙_}
+use mathlib.Core.Path.{_≡_, sym, _∙_}
 use borrow.Author.Needs.{needs}
 use lib.ListN.{length, drop}
 use Rattle.format.specs.Bytes.{lineLen}
@@ -15,8 +15,11 @@ Inv-loop block at i₀ i = at + lineLen (drop at block) ≡ i + lineLen (drop i 
 abbrev μ-loop : tie.MeasureT-loop
 μ-loop block at i₀ i = length block - i
 
+plain-to-requires : tie.Need-plain-to-requires Inv-loop μ-loop
+plain-to-requires c κs = search needs
+
 loop-holds : tie.Need-loop-holds Inv-loop μ-loop
-loop-holds c = refl
+loop-holds c = c .plain-to .ensures .0
 
 shared-slice-read-if1 : tie.Need-shared-slice-read-if1 Inv-loop μ-loop
 shared-slice-read-if1 c = search needs
@@ -45,6 +48,7 @@ line-end-spec =
     (tie.spec
     Inv-loop
     μ-loop
+    plain-to-requires
     loop-holds
     shared-slice-read-if1
     add-result
