@@ -55,6 +55,14 @@ pub fn judge(block: &[u8], u: Rules, scratch: &mut [u32]) -> Judged
         };
         match line_step(block, at, end, u, p, scratch) {
             Turn::Go(next) => {
+                // most lines are of neither list: what is known behind them is not passed on once more
+                if next.running != 6 {
+                    if next.running != 7 {
+                        p = next;
+                        at = end;
+                        continue;
+                    }
+                }
                 let ran = rows_run(block, end, u.last, next, scratch);
                 let known = ran.known;
                 p = known;

@@ -42,14 +42,20 @@ line-step-requires c κs = let m = c .before .before in let l = m .before .befor
 enum-known-next : tie.Need-enum-known-next Inv-loop μ-loop
 enum-known-next c = search needs
 
+loop-less : tie.Need-loop-less Inv-loop μ-loop
+loop-less c = let m = c .before .before .before .before .before .before .before .before .before .before .before .before in let l = m .before .before in let k = l .before .before in let a = k .before .before .before .before in let d = looked-end (a .args .block .now) (k .loop .at) (l .clean-end .result) _ (m .end .given .1) (l .clean-end .ensures) in omega (arith, d .end .more (l .before .loop-test .taken), d .end .high (k .loop .inv .0))
+
+loop-again : tie.Need-loop-again Inv-loop μ-loop
+loop-again c = let s = c .before .before .before .before .before .before .before .before .before in let n = c .before .before .before .before .before .next .given .1 in let m = s .before .before .before in let l = m .before .before in let k = l .before .before in let a = k .before .before .before .before in let d = looked-end (a .args .block .now) (k .loop .at) (l .clean-end .result) _ (m .end .given .1) (l .clean-end .ensures) in (d .end .high (k .loop .inv .0), s .line-step .ensures .0, bounded-go _ (s .line-step .result) _ n (s .line-step .ensures .1), flowing-go _ (s .line-step .result) _ n (s .line-step .ensures .2), went (a .args .u) (a .args .block .now) (k .loop .at) _ (k .loop .p) (k .loop .scratch) (s .line-step .last .1 .1 .1 .1 .1 .0) (k .loop .inv .4) (l .before .loop-test .taken) (d .end) (s .line-step .result) (s .line-step .ensures .3) _ n)
+
 rows-run-requires : tie.Need-rows-run-requires Inv-loop μ-loop
 rows-run-requires c κs = search needs
 
-loop-less : tie.Need-loop-less Inv-loop μ-loop
-loop-less c = let m = c .before .before .before .before .before .before .before .before .before .before .before .before .before in let l = m .before .before in let k = l .before .before in let a = k .before .before .before .before in let d = looked-end (a .args .block .now) (k .loop .at) (l .clean-end .result) _ (m .end .given .1) (l .clean-end .ensures) in omega (arith, d .end .more (l .before .loop-test .taken), d .end .high (k .loop .inv .0), c .before .before .before .rows-run .ensures .1 .low)
+loop-less-2 : tie.Need-loop-less-2 Inv-loop μ-loop
+loop-less-2 c = let m = c .before .before .before .before .before .before .before .before .before .before .before .before .before .before .before in let l = m .before .before in let k = l .before .before in let a = k .before .before .before .before in let d = looked-end (a .args .block .now) (k .loop .at) (l .clean-end .result) _ (m .end .given .1) (l .clean-end .ensures) in omega (arith, d .end .more (l .before .loop-test .taken), d .end .high (k .loop .inv .0), c .before .before .before .rows-run .ensures .1 .low)
 
-loop-again : tie.Need-loop-again Inv-loop μ-loop
-loop-again c = let s = c .before .before .before .before .before .before .before .before .before .before in let n = c .before .before .before .before .before .before .next .given .1 in let m = s .before .before .before in let l = m .before .before in let k = l .before .before in let a = k .before .before .before .before in let d = looked-end (a .args .block .now) (k .loop .at) (l .clean-end .result) _ (m .end .given .1) (l .clean-end .ensures) in ran-on (a .args .u) (a .args .block .now) _ _ (s .line-step .last .1 .1 .1 .1 .1 .0) (c .before .before .before .rows-run .last .1 .1 .1 .1 .0) (c .before .before .before .rows-run .result) (c .before .before .before .rows-run .ensures .1) (bounded-go _ (s .line-step .result) _ n (s .line-step .ensures .1)) (a .pre .2 .low) (d .end .high (k .loop .inv .0)) (c .before .before .before .rows-run .ensures .0 ∙ s .line-step .ensures .0) (flowing-go _ (s .line-step .result) _ n (s .line-step .ensures .2)) (went (a .args .u) (a .args .block .now) (k .loop .at) _ (k .loop .p) (k .loop .scratch) (s .line-step .last .1 .1 .1 .1 .1 .0) (k .loop .inv .4) (l .before .loop-test .taken) (d .end) (s .line-step .result) (s .line-step .ensures .3) _ n)
+loop-again-2 : tie.Need-loop-again-2 Inv-loop μ-loop
+loop-again-2 c = let s = c .before .before .before .before .before .before .before .before .before .before .before .before in let n = c .before .before .before .before .before .before .before .before .next .given .1 in let m = s .before .before .before in let l = m .before .before in let k = l .before .before in let a = k .before .before .before .before in let d = looked-end (a .args .block .now) (k .loop .at) (l .clean-end .result) _ (m .end .given .1) (l .clean-end .ensures) in ran-on (a .args .u) (a .args .block .now) _ _ (s .line-step .last .1 .1 .1 .1 .1 .0) (c .before .before .before .rows-run .last .1 .1 .1 .1 .0) (c .before .before .before .rows-run .result) (c .before .before .before .rows-run .ensures .1) (bounded-go _ (s .line-step .result) _ n (s .line-step .ensures .1)) (a .pre .2 .low) (d .end .high (k .loop .inv .0)) (c .before .before .before .rows-run .ensures .0 ∙ s .line-step .ensures .0) (flowing-go _ (s .line-step .result) _ n (s .line-step .ensures .2)) (went (a .args .u) (a .args .block .now) (k .loop .at) _ (k .loop .p) (k .loop .scratch) (s .line-step .last .1 .1 .1 .1 .1 .0) (k .loop .inv .4) (l .before .loop-test .taken) (d .end) (s .line-step .result) (s .line-step .ensures .3) _ n)
 
 enum-known-number : tie.Need-enum-known-number Inv-loop μ-loop
 enum-known-number c = search needs
@@ -64,19 +70,19 @@ same-length-3 : tie.Need-same-length-3 Inv-loop μ-loop
 same-length-3 c = let k = c .before .before .before in k .loop .inv .1 ∙ sym (k .before .before .before .before .pre .0)
 
 returns-3 : tie.Need-returns-3 Inv-loop μ-loop
-returns-3 c = let k = c .before .before .before in let a = k .before .before .before .before in (k .loop .inv .1, accepts (a .args .u) (a .args .block .now) (k .loop .at) (k .loop .p) (k .loop .scratch) (k .loop .inv .4) (c .before .before .loop-test .left) (k .loop .inv .2) (c .if1 .taken))
+returns-3 c = let k = c .before .before .before in let a = k .before .before .before .before in (k .loop .inv .1, accepts (a .args .u) (a .args .block .now) (k .loop .at) (k .loop .p) (k .loop .scratch) (k .loop .inv .4) (c .before .before .loop-test .left) (k .loop .inv .2) (c .if3 .taken))
 
 same-length-4 : tie.Need-same-length-4 Inv-loop μ-loop
 same-length-4 c = let k = c .before .before .before .before .before in k .loop .inv .1 ∙ sym (k .before .before .before .before .pre .0)
 
 returns-4 : tie.Need-returns-4 Inv-loop μ-loop
-returns-4 c = let k = c .before .before .before .before .before in let a = k .before .before .before .before in (k .loop .inv .1, empty-refused (a .args .u) (a .args .block .now) (k .loop .at) (k .loop .p) (k .loop .scratch) (k .loop .inv .4) (c .before .before .before .before .loop-test .left) (k .loop .inv .2) (c .before .before .if1 .left) (c .if2 .taken))
+returns-4 c = let k = c .before .before .before .before .before in let a = k .before .before .before .before in (k .loop .inv .1, empty-refused (a .args .u) (a .args .block .now) (k .loop .at) (k .loop .p) (k .loop .scratch) (k .loop .inv .4) (c .before .before .before .before .loop-test .left) (k .loop .inv .2) (c .before .before .if3 .left) (c .if4 .taken))
 
 same-length-5 : tie.Need-same-length-5 Inv-loop μ-loop
 same-length-5 c = let k = c .before .before .before .before .before in k .loop .inv .1 ∙ sym (k .before .before .before .before .pre .0)
 
 returns-5 : tie.Need-returns-5 Inv-loop μ-loop
-returns-5 c = let k = c .before .before .before .before .before in let a = k .before .before .before .before in (k .loop .inv .1, endless-refused (a .args .u) (a .args .block .now) (k .loop .at) (k .loop .p) (k .loop .scratch) (k .loop .inv .4) (c .before .before .before .before .loop-test .left) (k .loop .inv .2) (c .before .before .if1 .left) (c .if2 .left))
+returns-5 c = let k = c .before .before .before .before .before in let a = k .before .before .before .before in (k .loop .inv .1, endless-refused (a .args .u) (a .args .block .now) (k .loop .at) (k .loop .p) (k .loop .scratch) (k .loop .inv .4) (c .before .before .before .before .loop-test .left) (k .loop .inv .2) (c .before .before .if3 .left) (c .if4 .left))
 
 pub judge-spec : {M : Type 1} → statement M
 judge-spec =
@@ -93,9 +99,11 @@ judge-spec =
     returns
     line-step-requires
     enum-known-next
-    rows-run-requires
     loop-less
     loop-again
+    rows-run-requires
+    loop-less-2
+    loop-again-2
     enum-known-number
     same-length-2
     returns-2
