@@ -1,4 +1,4 @@
-// One byte: which of document 01's kinds it is.
+// One byte: which of document 01's kinds it is: "Lines and labels" (blanks, allowed bytes), "Rows" (digits and letters).
 ghost use mathlib.Core.Path.{_≡_};
 ghost use Rattle.format.specs.Bytes.{gap, allowed};
 ghost use Rattle.format.specs.Rows.{digit, upper, lower};

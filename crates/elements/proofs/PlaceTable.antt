@@ -9,11 +9,12 @@ use lib.ListN.{getD}
 use lib.Dec.{eqb}
 use borrow.Author.Tests.{eqb-true}
 use Rattle.lists.specs.Lists.{any, sameBy}
+use Rattle.lists.proofs.IndexLaws.{below, at-below}
 use Rattle.format.specs.Bytes.{bytes, blank, gap, consTo, fields}
 use Rattle.format.specs.Structure.{symbols, placeOf}
 use Rattle.elements.specs.Spelling.{spelling}
 use Rattle.elements.specs.Words.{words, wordOf, entryOf}
-use Rattle.elements.proofs.TableRule.{below, at-below, Missed, bare, gone}
+use Rattle.elements.proofs.TableRule.{Missed, bare, gone}
 
 -- THE WORDS, by the numbers of the arms, the last first
 abbrev earlyRows : List ℕ

@@ -1,28 +1,13 @@
--- A rule that is computed once for all numbers below a bound holds at each of them; and what the last arm of a `match` says of its number. Assumes nothing.
-use mathlib.Core.Path.{_≡_, refl, sym, ap, _∙_}
-use mathlib.Core.Bool.{Bool, true, false, _&&_, _||_}
+-- What the last arm of a `match` says of its number, where the rule of the others is computed once for all numbers below a bound. Assumes nothing.
+use mathlib.Core.Path.{_≡_, refl, sym, _∙_}
+use mathlib.Core.Bool.{Bool, true, false, _||_}
 use mathlib.Core.List.{List, [], _∷_}
-use Prim.Native.Nat.{ℕ, zero, suc, _≤_, _<_}
-use native.Mathlib.Omega.{arith}
+use Prim.Native.Nat.{ℕ, _≤_, _<_}
 use lib.Dec.{eqb, ltb}
-use borrow.Author.Tests.{ne-eqb, le-ltb, eqb-true, eqb-false}
+use borrow.Author.Tests.{ne-eqb, le-ltb, eqb-true}
 use Rattle.lists.specs.Lists.{any}
-use Rattle.lists.proofs.Bools.{and-parts}
+use Rattle.lists.proofs.IndexLaws.{below, at-below}
 use Rattle.format.specs.Bytes.{isIn}
-
--- whether a test passes at each number below n
-unfoldable pub below : (ℕ → Bool) → ℕ → Bool
-below f zero = true
-below f (suc n) = f n && below f n
-
-pub at-below : (f : ℕ → Bool) (n : ℕ) → below f n ≡ true → (k : ℕ) → k < n → f k ≡ true
-unfolding below
-at-below f zero h k l = absurd (omega arith)
-at-below f (suc n) h k l = go (eqb k n) refl (and-parts (f n) (below f n) h .0) (at-below f n (and-parts (f n) (below f n) h .1) k)
-  where
-    go : (t : Bool) → eqb k n ≡ t → f n ≡ true → (k < n → f k ≡ true) → f k ≡ true
-    go true e p ih = ap f (eqb-true k n e) ∙ p
-    go false e p ih = ih (omega (arith, eqb-false k n e))
 
 -- the last arm: the number is none of those before, the last of them first
 abbrev pub Missed : List ℕ → ℕ → Type 0

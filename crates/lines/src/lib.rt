@@ -1,11 +1,11 @@
-// Lines of a block, and what one line holds.
+// Lines of a block, and what one line holds: document 01, "Lines and labels" ("A line ends with a line feed (10) or with the input", "Allowed bytes", comments).
 mod plain; // plain.rt: bytes from 32 to 126, eight at a time
 
 ghost use mathlib.Core.Path.{_≡_};
 ghost use Prim.Native.Nat.{_<_};
 ghost use lib.ListN.{length, drop};
 ghost use Rattle.lists.specs.Lists.{all};
-ghost use Rattle.format.specs.Bytes.{allowed, gap};
+ghost use Rattle.format.specs.Bytes.{gap};
 ghost use Rattle.lines.specs.Cuts.{comment, LineEnd, Uncommented};
 ghost use Rattle.lines.specs.Looks.{ShowsLooked};
 use crate::plain::plain_to;
@@ -49,20 +49,6 @@ pub fn clean_end(block: &[u8], at: usize) -> Looked
         }
     }
     Looked::End(i)
-}
-
-// Whether each byte of the line is allowed: "Allowed bytes: 9, 10, 13 and 32 to 126."
-pub fn clean(line: &[u8]) -> bool
-    ensures { λ r. ⌜ r ≡ all allowed (now (line .entry)) ⌝ }
-{
-    let mut i = 0;
-    while i < line.len() {
-        if !alphabet::is_allowed(line[i]) {
-            return false;
-        }
-        i += 1;
-    }
-    true
 }
 
 // Whether the line holds blanks and line feeds alone.

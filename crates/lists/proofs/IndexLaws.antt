@@ -1,13 +1,16 @@
 -- Tests, order and maps told member by member, at an index: one that passes, none that passes, where a run ends, an earlier member before a later one, maps that
--- agree on the members. Over any element. Assumes nothing.
+-- agree on the members; and a test that is computed once for all numbers below a bound. Over any element. Assumes nothing.
 use Prim.Native.Nat.{ℕ, zero, suc, _≤_, _<_}
 use mathlib.Core.Path.{_≡_, refl, ap, ap₂, _∙_}
-use mathlib.Core.Bool.{Bool, true, false}
+use mathlib.Core.Bool.{Bool, true, false, _&&_}
 use mathlib.Core.List.{List, [], _∷_, map}
 use native.Mathlib.Omega.{arith}
+use lib.Dec.{eqb}
 use lib.ListN.{length, getD}
+use borrow.Author.Tests.{eqb-true, eqb-false}
 use Rattle.lists.specs.Lists.{all, any, span}
 use Rattle.lists.specs.Order.{ascends, Strict}
+use Rattle.lists.proofs.Bools.{and-parts}
 use Rattle.lists.proofs.ListLaws.{all-nil, all-both, all-at, any-nil, any-hit, any-later, any-neither, span-nil, in-cons, out-cons}
 use Rattle.lists.proofs.SortLaws.{ascends-parts, ascends-first}
 
@@ -56,3 +59,17 @@ module _ {A B : Type 0} where
   pub map-on : (f g : A → B) (d : A) (xs : List A) → ((i : ℕ) → i < length xs → f (getD xs i d) ≡ g (getD xs i d)) → map f xs ≡ map g xs
   map-on f g d [] h = refl
   map-on f g d (x ∷ xs) h = ap₂ (λ (y : B) (ys : List B). y ∷ ys) (h 0 (omega arith)) (map-on f g d xs (λ i k. h (suc i) (omega arith)))
+
+-- whether a test passes at each number below n
+unfoldable pub below : (ℕ → Bool) → ℕ → Bool
+below f zero = true
+below f (suc n) = f n && below f n
+
+pub at-below : (f : ℕ → Bool) (n : ℕ) → below f n ≡ true → (k : ℕ) → k < n → f k ≡ true
+unfolding below
+at-below f zero h k l = absurd (omega arith)
+at-below f (suc n) h k l = go (eqb k n) refl (and-parts (f n) (below f n) h .0) (at-below f n (and-parts (f n) (below f n) h .1) k)
+  where
+    go : (t : Bool) → eqb k n ≡ t → f n ≡ true → (k < n → f k ≡ true) → f k ≡ true
+    go true e p ih = ap f (eqb-true k n e) ∙ p
+    go false e p ih = ih (omega (arith, eqb-false k n e))

@@ -1,5 +1,5 @@
 -- The pieces of a quick row, at places of the block. Document 01, "Lines and labels" and "Rows". Assumes nothing.
-use Prim.Native.Nat.{ℕ, zero, suc, _+_, _-_, _*_, _/_, _%_, _^_, _≤_, _<_}
+use Prim.Native.Nat.{ℕ, _+_, _-_, _*_, _/_, _%_, _^_, _≤_, _<_}
 use mathlib.Core.Path.{_≡_, refl, sym, ap, _∙_}
 use mathlib.Core.Bool.{Bool, true, false, _&&_}
 use mathlib.Core.Option.{Option, none, some}
@@ -9,9 +9,10 @@ use native.Mathlib.Numerals.{add-one}
 use lib.ListN.{length, getD, drop}
 use lib.Seq.{drop-cons}
 use lib.Dec.{eqb, ltb}
-use borrow.Author.Tests.{eqb-true, eqb-false, ltb-true}
+use borrow.Author.Tests.{eqb-true, ltb-true}
 use Rattle.lists.specs.Lists.{all, sameBy}
 use Rattle.lists.proofs.Bools.{and-parts}
+use Rattle.lists.proofs.IndexLaws.{below, at-below}
 use Rattle.lists.proofs.ListLaws.{all-nil, all-both, all-imply}
 use Rattle.format.specs.Bytes.{Bytes, bytes, within}
 use Rattle.format.specs.Rows.{digit, number, placeIn}
@@ -144,20 +145,6 @@ kindOf letter = elim (placeIn 1 (letter ∷ []) (bytes "SDTQA")) [ none ↦ 0 | 
 
 unfoldable right : ℕ → Bool
 right k = eqb (kindAt k) (kindOf (65 + k)) && ltb (kindAt k) 6
-
--- whether a test passes at each number below n
-unfoldable below : (ℕ → Bool) → ℕ → Bool
-below f zero = true
-below f (suc n) = f n && below f n
-
-at-below : (f : ℕ → Bool) (n : ℕ) → below f n ≡ true → (k : ℕ) → k < n → f k ≡ true
-unfolding below
-at-below f zero h k l = absurd (omega arith)
-at-below f (suc n) h k l = go (eqb k n) refl (and-parts (f n) (below f n) h .0) (at-below f n (and-parts (f n) (below f n) h .1) k)
-  where
-    go : (t : Bool) → eqb k n ≡ t → f n ≡ true → (k < n → f k ≡ true) → f k ≡ true
-    go true e p ih = ap f (eqb-true k n e) ∙ p
-    go false e p ih = ih (omega (arith, eqb-false k n e))
 
 all-right : below right 20 ≡ true
 unfolding below right kindOf placeIn bytes sameBy
