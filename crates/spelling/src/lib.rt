@@ -1,13 +1,13 @@
 // An element and its mass as a symbol: document 01, "The one written form" ("D and T for hydrogen 2 and 3, .. in the atom list too").
 ghost use mathlib.Core.Path.{_≡_};
 ghost use mathlib.Core.Bool.{not};
-ghost use Prim.Native.Nat.{_-_, _<_};
 ghost use lib.Dec.{eqb};
 ghost use lib.ListN.{getD};
 ghost use Rattle.format.specs.Structure.{isotopeOf};
 ghost use Rattle.format.specs.Writing.{symbolOf, spelt, printMass, printSym};
 ghost use Rattle.printing.specs.Printing.{Laid};
 ghost use Rattle.spelling.specs.Spelling.{plainSym, lettersOf};
+ghost use Rattle.spelling.specs.Words.{wordOf};
 use printing::put;
 use printing::put_number;
 
@@ -17,62 +17,51 @@ struct Letters {
     second: u8,
 }
 
-// One less than an element: where its letters stand among the symbols.
-fn one_less(element: u32) -> usize
-    ensures { λ r. ⌜ r ≡ element - 1 ⌝ }
+// "Symbols are those of elements 1 (H) to 103 (Lr)": four elements a word from 0 on (which counts as 1), two bytes an element, its first letter in the lower.
+// A table would be laid out anew at each use.
+fn letters_word(row: u32) -> u64
+    ensures { λ r. ⌜ r ≡ wordOf row ⌝ }
 {
-    if element == 0 {
-        return 0;
+    match row {
+        0 => 7587550832129212488,
+        1 => 21955335950591298,
+        2 => 7011653055548883023,
+        3 => 22633805156280141,
+        4 => 21236248568070227,
+        5 => 24322659161694531,
+        6 => 8017363114822300227,
+        7 => 7009692679818930510,
+        8 => 8233254477877044551,
+        9 => 25176975384670795,
+        10 => 7157468085951033946,
+        11 => 7440338355903165778,
+        12 => 7085127943395566659,
+        13 => 8305593566437664084,
+        14 => 8237195058530246978,
+        15 => 8450280480914302030,
+        16 => 8018792471147603015,
+        17 => 8452238736893440581,
+        18 => 7300898321216071240,
+        19 => 8449162264787383119,
+        20 => 7584732819999713096,
+        21 => 8234390269110349648,
+        22 => 7012219331467632978,
+        23 => 7872702611962331221,
+        24 => 8306157527503105347,
+        25 => 8236080201034722630,
+        _ => 0,
     }
-    element as usize - 1
 }
 
-// A letter of an element, the first (0) or the second (1); 0 where there is none. "Symbols are those of elements 1 (H) to 103 (Lr)": two bytes an element.
-fn letter(element: u32, which: usize) -> u8
-    requires { ⌜ which < 2 ⌝ }
-    ensures { λ r. ⌜ r ≡ getD (symbolOf element) which 0 ⌝ }
-{
-    let place = one_less(element);
-    if place < 103 {
-        let letters = b"\
-H\0HeLiBeB\0C\0N\0O\0F\0NeNaMgAlSiP\0S\0ClArK\0Ca\
-ScTiV\0CrMnFeCoNiCuZnGaGeAsSeBrKrRbSrY\0Zr\
-NbMoTcRuRhPdAgCdInSnSbTeI\0XeCsBaLaCePrNd\
-PmSmEuGdTbDyHoErTmYbLuHfTaW\0ReOsIrPtAuHg\
-TlPbBiPoAtRnFrRaAcThPaU\0NpPuAmCmBkCfEsFm\
-MdNoLr";
-        return letters[2 * place + which];
-    }
-    0
-}
-
-// Both letters of an element. Most atoms are H, C, N or O, which are not looked up: a table is laid on the stack where it is read.
+// Both letters of an element; 0 where there is none.
 fn letters_of(element: u32) -> Letters
     ensures { λ r. ⌜ (r .first ≡ getD (symbolOf element) 0 0) × (r .second ≡ getD (symbolOf element) 1 0) ⌝ }
 {
-    match element {
-        1 => Letters {
-            first: 72,
-            second: 0,
-        },
-        6 => Letters {
-            first: 67,
-            second: 0,
-        },
-        7 => Letters {
-            first: 78,
-            second: 0,
-        },
-        8 => Letters {
-            first: 79,
-            second: 0,
-        },
-        _ => {
-            let first = letter(element, 0);
-            let second = letter(element, 1);
-            Letters { first, second }
-        }
-    }
+    let shift = 16 * (element as u64 % 4);
+    let word = letters_word(element / 4) >> shift;
+    let first = (word % 256) as u8;
+    let second = (word / 256 % 256) as u8;
+    Letters { first, second }
 }
 
 // One letter or two.
