@@ -29,14 +29,32 @@ pub digits-laid : {b b′ : Bytes} {at r : ℕ} (n : ℕ) → Laid b at (digitsI
 unfolding digits
 digits-laid n p = p
 
--- a number of one digit, and of two
+-- a number of one digit, of two and of three
+digits-two : (k n : ℕ) → 10 ≤ n → n < 100 → (48 + n / 10) ∷ (48 + n % 10) ∷ [] ≡ digitsIn (suc (suc k)) n
+unfolding digitsIn
+digits-two k n l h = ap (λ w. w ++ ((48 + n % 10) ∷ [])) (digits-one (suc k) (n / 10) (λ e. absurd (omega arith)) (omega arith)) ∙ sym (rw (le-ltb n 10 l, digitsIn))
+
 pub digits-single : (n : ℕ) → n < 10 → (48 + n) ∷ [] ≡ digits n
 unfolding digits
 digits-single n h = digits-one 6 n (λ e. absurd (omega arith)) h
 
-pub digits-double : (n : ℕ) → 10 ≤ n → n < 100 → ((48 + n / 10) ∷ []) ++ ((48 + n % 10) ∷ []) ≡ digits n
+pub digits-double : (n : ℕ) → 10 ≤ n → n < 100 → (48 + n / 10) ∷ (48 + n % 10) ∷ [] ≡ digits n
 unfolding digits
-digits-double n l h = ap (λ w. w ++ ((48 + n % 10) ∷ [])) (digits-one 5 (n / 10) (λ e. absurd (omega arith)) (omega arith)) ∙ digits-more 6 n (λ e. absurd (omega arith)) l
+digits-double n l h = digits-two 4 n l h
+
+pub digits-triple : (n : ℕ) → 100 ≤ n → n < 1000 → (48 + n / 100) ∷ (48 + n / 10 % 10) ∷ (48 + n % 10) ∷ [] ≡ digits n
+unfolding digits
+digits-triple n l h =
+    let q : n / 100 ≡ n / 10 / 10 = omega arith in
+    ap (λ w. w ++ ((48 + n % 10) ∷ [])) (ap (λ k. (48 + k) ∷ (48 + n / 10 % 10) ∷ []) q ∙ digits-two 3 (n / 10) (omega arith) (omega arith))
+    ∙ digits-more 6 n (λ e. absurd (omega arith)) (omega arith)
+
+-- such a number with the space before it
+pub behind-single : (n : ℕ) → n < 10 → 32 ∷ (48 + n) ∷ [] ≡ 32 ∷ digits n
+behind-single n h = ap (λ w. 32 ∷ w) (digits-single n h)
+
+pub behind-double : (n : ℕ) → 10 ≤ n → n < 100 → 32 ∷ (48 + n / 10) ∷ (48 + n % 10) ∷ [] ≡ 32 ∷ digits n
+behind-double n l h = ap (λ w. 32 ∷ w) (digits-double n l h)
 
 -- a number that is left out where it is zero
 pub zero-left-out : (n : ℕ) (w : Bytes) → n ≡ 0 → [] ≡ spaced (unlessZero n w)

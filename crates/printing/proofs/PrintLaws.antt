@@ -55,6 +55,17 @@ laid-then {b} {b₁} {b₂} {x} {y} {at} {r₁} {r₂} p q = record {
 pub laid-as : {b b′ x y : Bytes} {at r : ℕ} → x ≡ y → Laid b at x b′ r → Laid b at y b′ r
 laid-as {b} {b′} {x} {y} {at} {r} e p = record { place = p .place ∙ ap (after at) e; laid = p .laid ∙ ap (over b at) e }
 
+-- TWO BYTES AND THREE that have their places, each set where it stands
+pub laid-pair : {b : Bytes} {x y : ℕ} (at : ℕ) → at < 32768 → Laid b at (x ∷ y ∷ []) (set (set b at x) (at + 1) y) (at + 2)
+laid-pair at h =
+    let q : at + 2 ≡ at + 1 + 1 = omega arith in
+    laid-then (laid-byte refl (next-in at (omega arith))) (laid-byte refl (q ∙ next-in (at + 1) (omega arith)))
+
+pub laid-three : {b : Bytes} {x y z : ℕ} (at : ℕ) → at < 32767 → Laid b at (x ∷ y ∷ z ∷ []) (set (set (set b at x) (at + 1) y) (at + 2) z) (at + 3)
+laid-three at h =
+    let q : at + 3 ≡ at + 2 + 1 = omega arith in
+    laid-then (laid-pair at (omega arith)) (laid-byte refl (q ∙ next-in (at + 2) (omega arith)))
+
 -- WHAT IS STILL TO BE PRINTED
 pub rest-all : {b whole : Bytes} {at : ℕ} → Rests b at whole b at whole
 rest-all = record { place = refl; laid = refl }

@@ -36,6 +36,37 @@ pub fn put(buffer: &mut [u8], at: usize, byte: u8) -> usize
     next_place(at)
 }
 
+// Two bytes. Where both have their place, and neither is beyond the longest form, one test serves for the two.
+pub fn put_pair(buffer: &mut [u8], at: usize, first: u8, second: u8) -> usize
+    ensures { λ r. ⌜ Laid (now (buffer .entry)) at (first ∷ second ∷ []) (now (buffer .exit)) r ⌝ }
+{
+    if at < Table::BLOCK {
+        if at + 2 <= buffer.len() {
+            buffer[at] = first;
+            buffer[at + 1] = second;
+            return at + 2;
+        }
+    }
+    let next = put(buffer, at, first);
+    put(buffer, next, second)
+}
+
+// Three bytes, tested in the same way.
+pub fn put_three(buffer: &mut [u8], at: usize, first: u8, second: u8, third: u8) -> usize
+    ensures { λ r. ⌜ Laid (now (buffer .entry)) at (first ∷ second ∷ third ∷ []) (now (buffer .exit)) r ⌝ }
+{
+    if at < Table::BLOCK - 1 {
+        if at + 3 <= buffer.len() {
+            buffer[at] = first;
+            buffer[at + 1] = second;
+            buffer[at + 2] = third;
+            return at + 3;
+        }
+    }
+    let next = put_pair(buffer, at, first, second);
+    put(buffer, next, third)
+}
+
 // The bytes of a text, one by one.
 fn put_each(buffer: &mut [u8], at: usize, text: &[u8]) -> usize
     ensures { λ r. ⌜ Laid (now (buffer .entry)) at (now (text .entry)) (now (buffer .exit)) r ⌝ }
@@ -105,7 +136,7 @@ fn put_digits(buffer: &mut [u8], at: usize, number: u32, most: u32) -> usize
     put(buffer, last, 48 + (number % 10) as u8)
 }
 
-// A number. Most have one digit or two, and are printed without the recursion.
+// A number. Most have one digit, two or three, and are printed without the recursion.
 pub fn put_number(buffer: &mut [u8], at: usize, number: u32) -> usize
     ensures { λ r. ⌜ Laid (now (buffer .entry)) at (digits number) (now (buffer .exit)) r ⌝ }
 {
@@ -113,16 +144,42 @@ pub fn put_number(buffer: &mut [u8], at: usize, number: u32) -> usize
         return put(buffer, at, 48 + number as u8);
     }
     if number < 100 {
-        let tens = put(buffer, at, 48 + (number / 10) as u8);
-        return put(buffer, tens, 48 + (number % 10) as u8);
+        return put_pair(
+            buffer,
+            at,
+            48 + (number / 10) as u8,
+            48 + (number % 10) as u8,
+        );
+    }
+    if number < 1000 {
+        let tens = 48 + (number / 10 % 10) as u8;
+        return put_three(
+            buffer,
+            at,
+            48 + (number / 100) as u8,
+            tens,
+            48 + (number % 10) as u8,
+        );
     }
     put_digits(buffer, at, number, 6)
 }
 
-// A number behind a space: "one space between fields".
+// A number behind a space: "one space between fields". One of one digit or two is laid with its space.
 pub fn put_behind(buffer: &mut [u8], at: usize, number: u32) -> usize
     ensures { λ r. ⌜ Laid (now (buffer .entry)) at (32 ∷ digits number) (now (buffer .exit)) r ⌝ }
 {
+    if number < 10 {
+        return put_pair(buffer, at, 32, 48 + number as u8);
+    }
+    if number < 100 {
+        return put_three(
+            buffer,
+            at,
+            32,
+            48 + (number / 10) as u8,
+            48 + (number % 10) as u8,
+        );
+    }
     let first = put(buffer, at, 32);
     put_number(buffer, first, number)
 }
