@@ -10,12 +10,12 @@ use lib.Dec.{eqb, ltb}
 use lib.ListN.{length, getD, List·getD-eq-default}
 use borrow.Author.Tests.{eqb-true, ltb-true, ltb-false}
 use Rattle.lists.proofs.Bools.{and-parts}
+use Rattle.lists.proofs.IndexLaws.{below, at-below}
 use Rattle.format.specs.Structure.{symbols}
 use Rattle.format.specs.Writing.{symbolOf}
 use Rattle.format.proofs.Tables.{elements-numbered}
 use Rattle.format.proofs.Computing.{computing}
 use Rattle.spelling.specs.Words.{words, wordOf}
-use Rattle.spelling.proofs.TableRule.{below, at-below}
 
 -- THE WORDS, by the number of the arm
 pub word-is : (row x : ℕ) → row ≡ x → getD words x 0 ≡ wordOf row
