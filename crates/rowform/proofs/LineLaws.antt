@@ -1,6 +1,6 @@
 -- A line printed word by word: document 01, "The one written form" ("One line feed a line, one space between fields"; "zero hydrogens and group 0 left out").
 -- Assumes nothing.
-use Prim.Native.Nat.{ℕ, _+_, _*_, _%_, _<_}
+use Prim.Native.Nat.{ℕ, _+_, _*_, _/_, _%_, _≤_, _<_}
 use mathlib.Core.Path.{_≡_, refl, sym, ap, ap₂, _∙_}
 use mathlib.Core.Bool.{Bool, true, false}
 use mathlib.Core.List.{List, [], _∷_, _++_, append-assoc}
@@ -15,7 +15,7 @@ use Rattle.cells.specs.Signs.{negative}
 use Rattle.printing.specs.Printing.{Laid, spaced}
 use Rattle.rowform.specs.Lines.{markWords, markLine, atomNo, atomLine}
 use Rattle.printing.proofs.PrintLaws.{laid-then, laid-as, spaced-none, spaced-more}
-use Rattle.printing.proofs.NumberLaws.{unless-zero}
+use Rattle.printing.proofs.NumberLaws.{digits-single, digits-double, zero-left-out, unless-zero}
 
 -- WORDS BEHIND A WORD, and the line's end
 pub behind-spaced : (ws : List Bytes) → behind ws ≡ spaced ws ++ (10 ∷ [])
@@ -27,29 +27,40 @@ pub line-spaced : (w : Bytes) (ws : List Bytes) → w ++ (spaced ws ++ (10 ∷ [
 unfolding line
 line-spaced w ws = ap (λ v. w ++ v) (sym (behind-spaced ws))
 
+-- A NUMBER AND THE SPACE BEHIND IT
+pub ahead-single : (n : ℕ) → n < 10 → (48 + n) ∷ 32 ∷ [] ≡ digits n ++ (32 ∷ [])
+ahead-single n h = ap (λ w. w ++ (32 ∷ [])) (digits-single n h)
+
+pub ahead-double : (n : ℕ) → 10 ≤ n → n < 100 → (48 + n / 10) ∷ (48 + n % 10) ∷ 32 ∷ [] ≡ digits n ++ (32 ∷ [])
+ahead-double n l h = ap (λ w. w ++ (32 ∷ [])) (digits-double n l h)
+
 -- AN ATOM
-module _ {b b₁ b₂ b₃ b₄ b₅ : Bytes} {at r₁ r₂ r₃ r₄ r₅ : ℕ} where
+module _ {b b₁ b₂ b₃ b₄ : Bytes} {at r₁ r₂ r₃ r₄ : ℕ} where
   pub atom-laid : (t : List ℤ) (i e m h : ℕ) → e ≡ cell t (16 + 5 * i) → m ≡ cell t (16 + 5 * i + 1) → h ≡ cell t (16 + 5 * i + 2)
-      → Laid b at (digits (i + 1)) b₁ r₁ → Laid b₁ r₁ (32 ∷ []) b₂ r₂ → Laid b₂ r₂ (printSym (spelt (isotopeOf e m))) b₃ r₃ → Laid b₃ r₃ (spaced (unlessZero h (digits h))) b₄ r₄ → Laid b₄ r₄ (10 ∷ []) b₅ r₅
-      → Laid b at (atomLine t i) b₅ r₅
+      → Laid b at (digits (i + 1) ++ (32 ∷ [])) b₁ r₁ → Laid b₁ r₁ (printSym (spelt (isotopeOf e m))) b₂ r₂ → Laid b₂ r₂ (spaced (unlessZero h (digits h))) b₃ r₃ → Laid b₃ r₃ (10 ∷ []) b₄ r₄
+      → Laid b at (atomLine t i) b₄ r₄
   unfolding atomWords
-  atom-laid t i e m h p q r l₁ l₂ l₃ l₄ l₅ =
+  atom-laid t i e m h p q r l₁ l₂ l₃ l₄ =
       let s : printSym (spelt (isotopeOf e m)) ≡ printSym (spelt (atomNo t i .kind)) = ap₂ (λ x y. printSym (spelt (isotopeOf x y))) p q in
       let u : spaced (unlessZero h (digits h)) ≡ spaced (unlessZero (atomNo t i .hydrogens) (digits (atomNo t i .hydrogens))) = ap (λ x. spaced (unlessZero x (digits x))) r in
       laid-as
-      (ap (λ v. digits (i + 1) ++ v) (ap (λ v. 32 ∷ v) (sym (append-assoc (printSym (spelt (atomNo t i .kind))) (spaced (unlessZero (atomNo t i .hydrogens) (digits (atomNo t i .hydrogens)))) (10 ∷ []))) ∙ sym (ap (λ v. v ++ (10 ∷ [])) (spaced-more (printSym (spelt (atomNo t i .kind))) (unlessZero (atomNo t i .hydrogens) (digits (atomNo t i .hydrogens))))))
+      (append-assoc (digits (i + 1)) (32 ∷ []) (printSym (spelt (atomNo t i .kind)) ++ (spaced (unlessZero (atomNo t i .hydrogens) (digits (atomNo t i .hydrogens))) ++ (10 ∷ [])))
+      ∙ ap (λ v. digits (i + 1) ++ v) (ap (λ v. 32 ∷ v) (sym (append-assoc (printSym (spelt (atomNo t i .kind))) (spaced (unlessZero (atomNo t i .hydrogens) (digits (atomNo t i .hydrogens)))) (10 ∷ []))) ∙ sym (ap (λ v. v ++ (10 ∷ [])) (spaced-more (printSym (spelt (atomNo t i .kind))) (unlessZero (atomNo t i .hydrogens) (digits (atomNo t i .hydrogens))))))
       ∙ line-spaced (digits (i + 1)) (printSym (spelt (atomNo t i .kind)) ∷ unlessZero (atomNo t i .hydrogens) (digits (atomNo t i .hydrogens))))
-      (laid-then l₁ (laid-then l₂ (laid-then (laid-as s l₃) (laid-then (laid-as u l₄) l₅))))
+      (laid-then l₁ (laid-then (laid-as s l₂) (laid-then (laid-as u l₃) l₄)))
 
 -- A LETTER AND A GROUP
-module _ {b b₁ b₂ : Bytes} {at r₁ r₂ : ℕ} where
-  pub group-laid : (g : ℕ) → (g ≡ 0 → ⊥) → Laid b at (32 ∷ []) b₁ r₁ → Laid b₁ r₁ ((g % 256) ∷ []) b₂ r₂ → g < 256 → Laid b at (spaced (unlessZero g (g ∷ []))) b₂ r₂
-  group-laid g f l k h = let q : g % 256 ≡ g = omega arith in laid-as (ap (λ x. 32 ∷ x ∷ []) q ∙ unless-zero g (g ∷ []) f) (laid-then l k)
+mark-is : (l g : ℕ) (w : Bytes) → w ≡ spaced (unlessZero g (g ∷ [])) → 32 ∷ l ∷ (w ++ (10 ∷ [])) ≡ spaced (markWords l g) ++ (10 ∷ [])
+mark-is l g w e = ap (λ v. 32 ∷ l ∷ (v ++ (10 ∷ []))) e ∙ sym (ap (λ v. v ++ (10 ∷ [])) (spaced-more (l ∷ []) (unlessZero g (g ∷ []))))
 
-module _ {b b₁ b₂ b₃ b₄ : Bytes} {at r₁ r₂ r₃ r₄ : ℕ} where
-  pub mark-laid : (l g : ℕ) → Laid b at (32 ∷ []) b₁ r₁ → Laid b₁ r₁ (l ∷ []) b₂ r₂ → (g < 256 → Laid b₂ r₂ (spaced (unlessZero g (g ∷ []))) b₃ r₃) → Laid b₃ r₃ (10 ∷ []) b₄ r₄
-      → g < 256 → Laid b at (spaced (markWords l g) ++ (10 ∷ [])) b₄ r₄
-  mark-laid l g l₁ l₂ l₃ l₄ h = laid-as (sym (ap (λ v. v ++ (10 ∷ [])) (spaced-more (l ∷ []) (unlessZero g (g ∷ []))))) (laid-then l₁ (laid-then l₂ (laid-then (l₃ h) l₄)))
+pub mark-alone : {b b₁ : Bytes} {at r₁ : ℕ} (l g : ℕ) → g ≡ 0 → Laid b at (32 ∷ l ∷ 10 ∷ []) b₁ r₁ → g < 256 → Laid b at (spaced (markWords l g) ++ (10 ∷ [])) b₁ r₁
+mark-alone l g e l₁ h = laid-as (mark-is l g [] (zero-left-out g (g ∷ []) e)) l₁
+
+module _ {b b₁ b₂ : Bytes} {at r₁ r₂ : ℕ} where
+  pub mark-grouped : (l g : ℕ) → (g ≡ 0 → ⊥) → Laid b at (32 ∷ l ∷ []) b₁ r₁ → Laid b₁ r₁ (32 ∷ (g % 256) ∷ 10 ∷ []) b₂ r₂ → g < 256 → Laid b at (spaced (markWords l g) ++ (10 ∷ [])) b₂ r₂
+  mark-grouped l g f l₁ l₂ h =
+      let q : g % 256 ≡ g = omega arith in
+      laid-as (ap (λ x. 32 ∷ l ∷ 32 ∷ x ∷ 10 ∷ []) q ∙ mark-is l g (32 ∷ g ∷ []) (unless-zero g (g ∷ []) f)) (laid-then l₁ l₂)
 
 module _ {b b₁ b₂ : Bytes} {at r₁ r₂ : ℕ} where
   pub one-laid : (n l g : ℕ) → Laid b at (digits n) b₁ r₁ → (g < 256 → Laid b₁ r₁ (spaced (markWords l g) ++ (10 ∷ [])) b₂ r₂) → g < 256 → Laid b at (markLine (n ∷ []) l g) b₂ r₂

@@ -7,7 +7,7 @@ ghost use lib.ListN.{length, getD};
 ghost use lib.IntN.{pos};
 ghost use Rattle.format.specs.Labels.{Bonds, Charges, Radicals, Centres, Pairs};
 ghost use Rattle.format.specs.Table.{cell as cellOf, membersAt, atomRecords};
-ghost use Rattle.format.specs.Writing.{digits, unlessZero, signedOf};
+ghost use Rattle.format.specs.Writing.{digits, signedOf};
 ghost use Rattle.printing.specs.Printing.{Laid, spaced};
 ghost use Rattle.rowform.specs.Lines.{markWords, markLine, memberOf, RowLaid};
 use crate::count_at;
@@ -17,26 +17,17 @@ use format::Table;
 use printing::put;
 use printing::put_behind;
 use printing::put_number;
+use printing::put_three;
 
-// A group behind a space, if it is not 0; a group is a byte.
-fn put_group(buffer: &mut [u8], at: usize, group: u32) -> usize
-    ensures { λ r. ⌜ (group < 256 → Laid (now (buffer .entry)) at (spaced (unlessZero group (group ∷ []))) (now (buffer .exit)) r) ⌝ }
-{
-    if group == 0 {
-        return at;
-    }
-    let behind = put(buffer, at, 32);
-    put(buffer, behind, (group % 256) as u8)
-}
-
-// A letter and a group behind what stands on the line, and the line's end.
+// A letter and a group behind what stands on the line, and the line's end: "group 0 left out". A group is a byte.
 fn put_mark(buffer: &mut [u8], at: usize, letter: u8, group: u32) -> usize
     ensures { λ r. ⌜ (group < 256 → Laid (now (buffer .entry)) at (spaced (markWords letter group) ++ (10 ∷ [])) (now (buffer .exit)) r) ⌝ }
 {
-    let space = put(buffer, at, 32);
-    let mark = put(buffer, space, letter);
-    let end = put_group(buffer, mark, group);
-    put(buffer, end, 10)
+    if group == 0 {
+        return put_three(buffer, at, 32, letter, 10);
+    }
+    let mark = printing::put_pair(buffer, at, 32, letter);
+    put_three(buffer, mark, 32, (group % 256) as u8, 10)
 }
 
 // The line of one atom, a letter and a group.

@@ -30,17 +30,14 @@ add-cell-2 c = search needs
 cell-requires-3 : tie.Need-cell-requires-3
 cell-requires-3 c κs = search needs
 
-cast-put-number : tie.Need-cast-put-number
-cast-put-number c = search needs
+cast-put-ahead : tie.Need-cast-put-ahead
+cast-put-ahead c = search needs
 
-add-put-number : tie.Need-add-put-number
-add-put-number c = search needs
+add-put-ahead : tie.Need-add-put-ahead
+add-put-ahead c = search needs
 
-put-number-requires : tie.Need-put-number-requires
-put-number-requires c κs = search needs
-
-put-requires : tie.Need-put-requires
-put-requires c κs = search needs
+put-ahead-requires : tie.Need-put-ahead-requires
+put-ahead-requires c κs = search needs
 
 put-symbol-requires : tie.Need-put-symbol-requires
 put-symbol-requires c κs = search needs
@@ -48,14 +45,14 @@ put-symbol-requires c κs = search needs
 put-unless-zero-requires : tie.Need-put-unless-zero-requires
 put-unless-zero-requires c κs = search needs
 
-put-requires-2 : tie.Need-put-requires-2
-put-requires-2 c κs = search needs
+put-requires : tie.Need-put-requires
+put-requires c κs = search needs
 
 same-length : tie.Need-same-length
 same-length c = search needs
 
 returns-2 : tie.Need-returns-2
-returns-2 c = (λ low. atom-laid (c .before .before .before .before .before .before .before .before .before .before .before .before .before .before .before .before .before .before .before .before .before .before .before .before .before .args .table .now) (c .before .before .before .before .before .before .before .before .before .before .before .before .before .before .before .before .before .before .before .before .before .before .before .before .before .args .i) _ _ _ (c .before .before .before .before .before .before .before .before .before .before .before .before .before .before .before .before .before .before .before .before .before .before .cell .ensures) (c .before .before .before .before .before .before .before .before .before .before .before .before .before .before .before .before .before .before .before .before .before .cell2 .ensures) (c .before .before .before .before .before .before .before .before .before .before .before .before .before .before .before .before .before .before .before .before .cell3 .ensures) (c .before .before .before .before .before .before .before .before .before .before .before .before .before .before .before .before .before .before .put-number .ensures) (c .before .before .before .before .before .before .before .before .before .before .before .before .before .before .put .ensures) (c .before .before .before .before .before .before .before .before .before .before .put-symbol .ensures) (c .before .before .before .before .before .before .put-unless-zero .ensures) (c .before .before .put2 .ensures), λ h. absurd (omega (arith, h, c .before .before .before .before .before .before .before .before .before .before .before .before .before .before .before .before .before .before .before .before .before .before .before .if1 .left)))
+returns-2 c = (λ low. atom-laid (c .before .before .before .before .before .before .before .before .before .before .before .before .before .before .before .before .before .before .before .before .before .args .table .now) (c .before .before .before .before .before .before .before .before .before .before .before .before .before .before .before .before .before .before .before .before .before .args .i) _ _ _ (c .before .before .before .before .before .before .before .before .before .before .before .before .before .before .before .before .before .before .cell .ensures) (c .before .before .before .before .before .before .before .before .before .before .before .before .before .before .before .before .before .cell2 .ensures) (c .before .before .before .before .before .before .before .before .before .before .before .before .before .before .before .before .cell3 .ensures) (c .before .before .before .before .before .before .before .before .before .before .before .before .before .before .put-ahead .ensures) (c .before .before .before .before .before .before .before .before .before .before .put-symbol .ensures) (c .before .before .before .before .before .before .put-unless-zero .ensures) (c .before .before .put .ensures), λ h. absurd (omega (arith, h, c .before .before .before .before .before .before .before .before .before .before .before .before .before .before .before .before .before .before .before .if1 .left)))
 
 pub put-atom-spec : {M : Type 1} → statement M
 put-atom-spec =
@@ -69,12 +66,11 @@ put-atom-spec =
     cell-requires-2
     add-cell-2
     cell-requires-3
-    cast-put-number
-    add-put-number
-    put-number-requires
-    put-requires
+    cast-put-ahead
+    add-put-ahead
+    put-ahead-requires
     put-symbol-requires
     put-unless-zero-requires
-    put-requires-2
+    put-requires
     same-length
     returns-2)
