@@ -4,6 +4,7 @@
 ghost use Prim.Native.Nat.{_+_, _≤_, _<_};
 ghost use mathlib.Core.Path.{_≡_};
 ghost use lib.ListN.{length};
+use format::Table;
 use reader::Answer;
 
 // Zeros for all of the input.
@@ -52,21 +53,21 @@ fn print_line(answer: Answer, table: &[i32]) {
             io::print_decimal(1, place as u64);
         }
     }
-    print_cell(table, 0);
-    print_cell(table, 1);
+    print_cell(table, Table::ATOM_COUNT);
+    print_cell(table, Table::BOND_COUNT);
     io::write_all(1, &[b'\n']);
 }
 
 // A block read into a whole table.
 fn print_whole(block: &[u8]) {
-    let mut table = [0i32; 3856];
+    let mut table = [0i32; Table::SIZE];
     let answer = reader::read(block, &mut table);
     print_line(answer, &table);
 }
 
 // A block read into a table that is one number too short.
 fn print_short(block: &[u8]) {
-    let mut table = [0i32; 3855];
+    let mut table = [0i32; Table::SIZE - 1];
     let answer = reader::read(block, &mut table);
     print_line(answer, &table);
 }

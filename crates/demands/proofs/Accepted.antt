@@ -25,14 +25,15 @@ use Rattle.format.proofs.AcceptedLaws.{block-refuses}
 use Rattle.format.proofs.TotalLaws.{agree-every, every-agree}
 use Rattle.format.proofs.Computing.{computing}
 use Rattle.demands.specs.Examples.{neon, wrongNeon}
-use Rattle.demands.specs.Accepted.{told, unparted, titleFirst, behindEnd, labels, outOfOrder, named, numbered, ownRule, valueRule, furtherRule, atomOf, atomRows, listRows, formulaIn, Obeys, _exactlyWhen_}
-use Rattle.demands.proofs.AcceptedContents.{atoms-are, rows-are, formula-are, atomOn, rowOf, entriesOn}
+use Rattle.demands.specs.Accepted.{told, unparted, titleFirst, behindEnd, labels, outOfOrder, named, entriesAs, numbered, ownRule, furtherRule, atomOf, toldOf, atomRows, listRows, molforms, Obeys, _exactlyWhen_}
+use Rattle.demands.proofs.AcceptedContents.{atoms-are, rows-are, formulaIn, formula-are, atomOn, rowOf, entriesOn}
 use Rattle.format.proofs.RefusedLaws.{long-read}
-use Rattle.demands.proofs.AcceptedSteps.{afters, along, along-and, along-all, keeps, when, acceptedAs, read-is, listPasses, onLine, titledAt, closedAt, nextAtom, roomAt, listedAt, apartAt, heldAt, present, complete}
-use Rattle.demands.proofs.AcceptedLines.{placed, placed-ordered, titled-first, closed-is, own-is}
+use Rattle.demands.proofs.AcceptedSteps.{afters, along, along-and, along-all, keeps, when, acceptedAs, read-is, listPasses, formulaPasses, valueTest, onLine, titledAt, closedAt, nextAtom, roomAt, listedAt, apartAt, heldAt, present, complete}
+use Rattle.demands.proofs.AcceptedLines.{placed, placed-ordered, titled-first, closed-is, ownTest, own-is}
 use Rattle.demands.proofs.AcceptedRows.{atomTest, numbers-are, atoms-roomy, afters-atoms, along-imply, along-every, line-each, line-every, rowTest, freeRow, heldRow, rows-free, rows-held}
 use Rattle.demands.proofs.AcceptedOrder.{Follows, listedRow, rows-listed, seen-any, ready, end-is, end-none}
 use Rattle.demands.proofs.AcceptedOnce.{formula-is}
+use Rattle.demands.proofs.AcceptedFormula.{asked-is, Molform, molform-read, molform-passes, molform-entries}
 
 -- THE TWELVE TESTS, each along all lines
 abbrev listTest : (State → ListOf → Row → Bool) → State → Bytes → Bool
@@ -44,7 +45,7 @@ pub record Twelve (k : ℕ) (st : State) (ls : List Bytes) : Type 0 where
   pub parted : along k (λ s l. not (unparted (lineOf l))) st ls ≡ true
   pub ordered-labels : along k (placed k) st ls ≡ true
   pub closed : along k closedAt st ls ≡ true
-  pub own : along k (λ s l. onLine (valueRule k) (furtherRule k) (s .running) l (lineOf l)) st ls ≡ true
+  pub own : along k (λ s l. onLine (valueTest k) (furtherRule k) (s .running) l (lineOf l)) st ls ≡ true
   pub next : along k (atomTest nextAtom) st ls ≡ true
   pub room : along k (atomTest roomAt) st ls ≡ true
   pub listed : along k (listTest listedAt) st ls ≡ true
@@ -75,7 +76,7 @@ module _ (k : ℕ) (st : State) (ls : List Bytes) where
   from7 s l = atomTest nextAtom s l && from8 s l
 
   abbrev from6 : State → Bytes → Bool
-  from6 s l = onLine (valueRule k) (furtherRule k) (s .running) l (lineOf l) && from7 s l
+  from6 s l = onLine (valueTest k) (furtherRule k) (s .running) l (lineOf l) && from7 s l
 
   abbrev from5 : State → Bytes → Bool
   from5 s l = closedAt s l && from6 s l
@@ -96,7 +97,7 @@ module _ (k : ℕ) (st : State) (ls : List Bytes) where
       let p3 : (along k (λ s l. not (unparted (lineOf l))) st ls ≡ true) × (along k from4 st ls ≡ true) = part (λ s l. not (unparted (lineOf l))) from4 (p2 .1) in
       let p4 : (along k (placed k) st ls ≡ true) × (along k from5 st ls ≡ true) = part (placed k) from5 (p3 .1) in
       let p5 : (along k closedAt st ls ≡ true) × (along k from6 st ls ≡ true) = part closedAt from6 (p4 .1) in
-      let p6 : (along k (λ s l. onLine (valueRule k) (furtherRule k) (s .running) l (lineOf l)) st ls ≡ true) × (along k from7 st ls ≡ true) = part (λ s l. onLine (valueRule k) (furtherRule k) (s .running) l (lineOf l)) from7 (p5 .1) in
+      let p6 : (along k (λ s l. onLine (valueTest k) (furtherRule k) (s .running) l (lineOf l)) st ls ≡ true) × (along k from7 st ls ≡ true) = part (λ s l. onLine (valueTest k) (furtherRule k) (s .running) l (lineOf l)) from7 (p5 .1) in
       let p7 : (along k (atomTest nextAtom) st ls ≡ true) × (along k from8 st ls ≡ true) = part (atomTest nextAtom) from8 (p6 .1) in
       let p8 : (along k (atomTest roomAt) st ls ≡ true) × (along k from9 st ls ≡ true) = part (atomTest roomAt) from9 (p7 .1) in
       let p9 : (along k (listTest listedAt) st ls ≡ true) × (along k from10 st ls ≡ true) = part (listTest listedAt) from10 (p8 .1) in
@@ -111,7 +112,7 @@ module _ (k : ℕ) (st : State) (ls : List Bytes) where
       (both (λ s l. not (unparted (lineOf l))) from4 (x .parted)
       (both (placed k) from5 (x .ordered-labels)
       (both closedAt from6 (x .closed)
-      (both (λ s l. onLine (valueRule k) (furtherRule k) (s .running) l (lineOf l)) from7 (x .own)
+      (both (λ s l. onLine (valueTest k) (furtherRule k) (s .running) l (lineOf l)) from7 (x .own)
       (both (atomTest nextAtom) from8 (x .next)
       (both (atomTest roomAt) from9 (x .room)
       (both (listTest listedAt) from10 (x .listed)
@@ -221,7 +222,7 @@ module _ (k : ℕ) (ls : List Bytes) where
   unfolding start
   room-is = atoms-roomy k start ls (omega arith)
 
-  fine-is : along k (λ s l. onLine (valueRule k) (furtherRule k) (s .running) l (lineOf l)) start ls ≡ all (ownRule k) (told Skipped ls)
+  fine-is : along k (λ s l. onLine (valueTest k) (furtherRule k) (s .running) l (lineOf l)) start ls ≡ all (ownTest k) (told Skipped ls)
   unfolding start
   fine-is = own-is k start ls
 
@@ -307,13 +308,20 @@ module _ (k : ℕ) (b : Bytes) where
       let c : complete (afters k start lines) ≡ true = sym (end-is k start lines (start-over k lines) (x .closed) e .0) ∙ x .end in
       let d : (present (afters k start lines) ≡ true) × (agree (afters k start lines .formula) (entriesOf (afters k start lines .body .atoms)) ≡ true) = and-parts _ _ c in
       let p : (all (named (labels lines)) (2 ∷ 3 ∷ 4 ∷ 5 ∷ []) ≡ true) × (not (eqb (length (atomRows b)) 0) ≡ true) = and-parts _ _ (sym (says-present) ∙ d .0) in
+      let f : (all (formulaPasses k) (molforms b) ≡ true) × (all (ownRule k) (toldOf b) ≡ true) = and-parts _ _ (sym (asked-is k b) ∙ sym (fine-is k lines) ∙ x .own) in
+      let m : Molform k b = molform-read k b (x .ordered-labels) (p .0) (f .0) in
       record {
         short = short;
         allowed-bytes = sym (along-all k (all allowed) start lines) ∙ x .fine;
         title-first = titled-there k lines e (x .titled);
         labels-parted = not-true (any (λ l. unparted (lineOf l)) lines) (sym (parted-is k lines) ∙ x .parted);
         labels-ordered = not-true (pairs outOfOrder (labels lines)) (sym (placed-ordered k lines) ∙ x .ordered-labels);
-        lines-fine = sym (fine-is k lines) ∙ x .own;
+        lines-fine = f .1;
+        molform = m .value;
+        molform-once = m .once;
+        formula = m .formula;
+        formula-said = m .said;
+        formula-fine = m .fine;
         atoms-numbered = sym (says-numbers) ∙ x .next;
         atoms-held = omega (arith, leb-true (0 + length (atomRows b)) 256 (sym (says-room) ∙ x .room));
         atoms-there = some-there (length (atomRows b)) (not-true (eqb (length (atomRows b)) 0) (p .1));
@@ -321,7 +329,7 @@ module _ (k : ℕ) (b : Bytes) where
         rows-apart = λ l. not-true (pairs (clash l) (listRows l b)) (sym (says-apart l) ∙ each-apart k lines (x .apart) l);
         rows-held = λ l. leb-true (length (kept (meets l) [] (listRows l b))) (most l) (sym (says-held l) ∙ each-held k lines (x .held) l);
         required = p .0;
-        totals = λ i. sym (ap (total i) (says-formula (x .ordered-labels))) ∙ agree-every _ _ (d .1) i ∙ ap (λ (as′ : List Atom). total i (entriesOf as′)) (says-atoms);
+        totals = λ i. sym (ap (total i) (says-formula (x .ordered-labels) ∙ molform-entries k b m)) ∙ agree-every _ _ (d .1) i ∙ ap (λ (as′ : List Atom). total i (entriesOf as′)) (says-atoms);
         end-there = e;
         end-last = sym (blank-is k lines) ∙ x .closed;
       }
@@ -334,7 +342,8 @@ module _ (k : ℕ) (b : Bytes) where
   twelve-kept y =
       let ord : along k (placed k) start lines ≡ true = placed-ordered k lines ∙ not-of-false _ (y .labels-ordered) in
       let cl : along k closedAt start lines ≡ true = blank-is k lines ∙ y .end-last in
-      let fo : afters k start lines .formula ≡ formulaIn k b = says-formula ord in
+      let m : Molform k b = record { value = y .molform; once = y .molform-once; formula = y .formula; said = y .formula-said; fine = y .formula-fine } in
+      let fo : afters k start lines .formula ≡ entriesAs k (some (y .formula)) = says-formula ord ∙ molform-entries k b m in
       let at : afters k start lines .body .atoms ≡ map (atomOf k) (atomRows b) = says-atoms in
       let ag : agree (afters k start lines .formula) (entriesOf (afters k start lines .body .atoms)) ≡ true =
       every-agree _ _ (λ i. ap (total i) fo ∙ y .totals i ∙ sym (ap (λ (as′ : List Atom). total i (entriesOf as′)) at)) in
@@ -346,7 +355,7 @@ module _ (k : ℕ) (b : Bytes) where
         parted = parted-is k lines ∙ not-of-false _ (y .labels-parted);
         ordered-labels = ord;
         closed = cl;
-        own = fine-is k lines ∙ y .lines-fine;
+        own = fine-is k lines ∙ asked-is k b ∙ and-both _ _ (molform-passes k b m) (y .lines-fine);
         next = says-numbers ∙ y .atoms-numbered;
         room = says-room ∙ le-leb (0 + length (atomRows b)) 256 (omega (arith, y .atoms-held));
         listed = every-listed k lines (λ l. says-listed l ord ∙ y .rows-listed l);

@@ -16,7 +16,7 @@ use Rattle.format.specs.Rows.{Row, AtomRow, number, field, atomShape, rowShape}
 use Rattle.format.specs.Formula.{formulaShape}
 use Rattle.format.specs.Structure.{Entry}
 use Rattle.format.specs.Reading.{ordered}
-use Rattle.demands.specs.Accepted.{Told, Value, Further, place, kind, onlyIf, valueIn, lineIn, listed, rowOn, rowsBy, entriesAs, toldOf, atomRows, listRows, formulaIn}
+use Rattle.demands.specs.Accepted.{Told, Value, Further, place, kind, onlyIf, valueIn, lineIn, listed, rowOn, rowsBy, entriesAs, toldOf, atomRows, listRows, molforms}
 use Rattle.demands.specs.ReadAs.{idsIn}
 
 -- WHAT A LINE CONTRIBUTES
@@ -209,7 +209,17 @@ module _ (l : ListOf) where
   rows-are b =
       ap (map ordered) (flat-flat _ (lineIn (Rows l)) (toldOf b)) ∙ map-flat ordered (λ t. rowsBy (rowShape l) (lineIn (Rows l) t)) (toldOf b) ∙ flat-same _ (rowOf l) rows-told (toldOf b)
 
--- THE FORMULA'S ENTRIES
+-- THE FORMULA'S ENTRIES, of records of its kind
+pub formula-kind : (h : Holds) → eqb 2 (kind h) ≡ formulaHeld h
+formula-kind (Text i) = refl
+formula-kind Version = refl
+formula-kind Formula = refl
+formula-kind BlockId = refl
+formula-kind Atoms = refl
+formula-kind (Rows m) = list-kind m 2 (omega arith)
+formula-kind End = refl
+formula-kind Skipped = refl
+
 entries-line : (k : ℕ) (h : Holds) (v : Bytes) → flat (λ w. entriesAs k (formulaShape (strip w))) (onlyIf (eqb 2 (kind h)) v) ≡ entriesIn k h v
 entries-line k (Text i) v = only-false _ v false refl
 entries-line k Version v = only-false _ v false refl
@@ -223,6 +233,10 @@ entries-line k Skipped v = only-false _ v false refl
 entries-told : (k : ℕ) (t : Told) → flat (λ w. entriesAs k (formulaShape (strip w))) (valueIn Formula t) ≡ entriesOn k t
 entries-told k (Value h v) = entries-line k h v
 entries-told k (Further h l) = flat-nil _
+
+-- what the machine reads of the values
+abbrev pub formulaIn : (k : ℕ) → Bytes → List Entry
+formulaIn k b = flat (λ v. entriesAs k (formulaShape (strip v))) (molforms b)
 
 pub formula-are : (k : ℕ) (b : Bytes) → formulaIn k b ≡ flat (entriesOn k) (toldOf b)
 formula-are k b = flat-flat _ (valueIn Formula) (toldOf b) ∙ flat-same _ (entriesOn k) (entries-told k) (toldOf b)

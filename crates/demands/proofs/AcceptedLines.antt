@@ -15,8 +15,8 @@ use Rattle.format.specs.Bytes.{Bytes, gap, isLabel}
 use Rattle.format.specs.Labels.{Holds, Skipped, Label, label, known, normal, misplaced, Parts, NoEquals, Parted, parts, partsLine, Line, Plain, Unparted, Labelled, lineOf, hasCode, titleLine, endLine}
 use Rattle.format.specs.Reading.{State, noted, over, start}
 use Rattle.format.proofs.AcceptedLaws.{lookup-passes}
-use Rattle.demands.specs.Accepted.{Told, Value, Further, toldAs, runsOn, told, behindEnd, labelOn, labels, outOfOrder, valueRule, furtherRule, ownRule}
-use Rattle.demands.proofs.AcceptedSteps.{after, along, onLine, titledAt, placedAt, closedAt, blank-plain}
+use Rattle.demands.specs.Accepted.{Told, Value, Further, toldAs, runsOn, told, behindEnd, labelOn, labels, outOfOrder, furtherRule}
+use Rattle.demands.proofs.AcceptedSteps.{after, along, valueTest, onLine, titledAt, placedAt, closedAt, blank-plain}
 use Rattle.demands.proofs.AcceptedState.{after-running, after-seen}
 
 -- THE LABEL ON A LINE is one of the known or that of the skipped: what they all pass it passes
@@ -67,11 +67,11 @@ module _ {A : Type 0} (r : A → A → Bool) where
       nothing [] = any-nil _
       nothing (y ∷ ys) = any-cons (λ x. any (λ z. r z x) []) y ys ∙ or-neither _ _ (any-nil _) (nothing ys)
 
-nil-append : {A : Type 0} (xs ys : List A) → isNil ys ≡ false → isNil (xs ++ ys) ≡ false
+pub nil-append : {A : Type 0} (xs ys : List A) → isNil ys ≡ false → isNil (xs ++ ys) ≡ false
 nil-append [] ys h = h
 nil-append (x ∷ xs) ys h = refl
 
-append-some : {A : Type 0} (xs ys : List A) → isNil xs ≡ false → isNil (xs ++ ys) ≡ false
+pub append-some : {A : Type 0} (xs ys : List A) → isNil xs ≡ false → isNil (xs ++ ys) ≡ false
 append-some [] ys h = torn true refl h
 append-some (x ∷ xs) ys h = refl
 
@@ -211,10 +211,14 @@ module _ (k : ℕ) where
   line-told p h l Unparted = sym (all-nil p)
   line-told p h l (Labelled x v) = sym (all-one p (Value (x .holds) v))
 
-  pub own-is : (st : State) (ls : List Bytes) → along k (λ s l. onLine (valueRule k) (furtherRule k) (s .running) l (lineOf l)) st ls ≡ all (ownRule k) (told (st .running) ls)
+  abbrev pub ownTest : Told → Bool
+  ownTest (Value h v) = valueTest k h v
+  ownTest (Further h l) = furtherRule k h l
+
+  pub own-is : (st : State) (ls : List Bytes) → along k (λ s l. onLine (valueTest k) (furtherRule k) (s .running) l (lineOf l)) st ls ≡ all ownTest (told (st .running) ls)
   unfolding along told
-  own-is st [] = sym (all-nil (ownRule k))
+  own-is st [] = sym (all-nil ownTest)
   own-is st (l ∷ ls) =
-      ap (λ (t : Bool). onLine (valueRule k) (furtherRule k) (st .running) l (lineOf l) && t) (own-is (after k st l) ls ∙ ap (λ (h : Holds). all (ownRule k) (told h ls)) (after-running k st l))
-      ∙ ap (λ (t : Bool). t && all (ownRule k) (told (runsOn (st .running) (lineOf l)) ls)) (line-told (ownRule k) (st .running) l (lineOf l))
-      ∙ sym (all-append (ownRule k) (toldAs (st .running) l (lineOf l)) (told (runsOn (st .running) (lineOf l)) ls))
+      ap (λ (t : Bool). onLine (valueTest k) (furtherRule k) (st .running) l (lineOf l) && t) (own-is (after k st l) ls ∙ ap (λ (h : Holds). all ownTest (told h ls)) (after-running k st l))
+      ∙ ap (λ (t : Bool). t && all ownTest (told (runsOn (st .running) (lineOf l)) ls)) (line-told ownTest (st .running) l (lineOf l))
+      ∙ sym (all-append ownTest (toldAs (st .running) l (lineOf l)) (told (runsOn (st .running) (lineOf l)) ls))

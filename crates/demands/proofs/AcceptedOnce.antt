@@ -11,11 +11,11 @@ use Rattle.lists.specs.Lists.{all, flat}
 use Rattle.lists.proofs.Bools.{torn, never, and-parts, or-other}
 use Rattle.lists.proofs.PartLaws.{flat-nil, flat-one}
 use Rattle.format.specs.Bytes.{Bytes}
-use Rattle.format.specs.Labels.{Holds, Label, label, known, misplaced, Line, Plain, Unparted, Labelled, lineOf}
+use Rattle.format.specs.Labels.{Holds, Formula, Label, label, known, misplaced, Line, Plain, Unparted, Labelled, lineOf}
 use Rattle.format.specs.Reading.{State, past, opened}
-use Rattle.demands.specs.Accepted.{Told, Value, Further, toldAs, told, labelOn}
+use Rattle.demands.specs.Accepted.{Told, Value, Further, toldAs, told, labelOn, kind, onlyIf, valueIn}
 use Rattle.demands.specs.ReadAs.{idAs}
-use Rattle.demands.proofs.AcceptedContents.{formulaHeld, idHeld, entriesOn, idOn}
+use Rattle.demands.proofs.AcceptedContents.{formulaHeld, formula-kind, idHeld, entriesOn, idOn}
 use Rattle.demands.proofs.AcceptedSteps.{afterValue, afterFurther, afterAs, after, afters, along, placedAt}
 use Rattle.demands.proofs.AcceptedState.{value-formula, value-entries, further-formula, value-quiet-id, value-id, further-id}
 use Rattle.demands.proofs.AcceptedLines.{label-passed, placed}
@@ -95,6 +95,12 @@ module _ (k : ℕ) {A B : Type 0} (g : State → B) (given : Told → List A) (r
             y .0 ∙ o .moved (afterAs k st l (lineOf l)) l ∙ x .0
             ∙ ap read (sym (append-nil (flat given (toldAs (st .running) l (lineOf l)))) ∙ ap (λ (es : List A). flat given (toldAs (st .running) l (lineOf l)) ++ es) (sym (y .1)))
 
+-- two values or more
+abbrev pub several : List Bytes → Bool
+several [] = false
+several (v ∷ []) = false
+several (v ∷ w ∷ vs) = true
+
 module _ (k : ℕ) where
   formula-code : (l : Bytes) (x : Label) (v : Bytes) → lineOf l ≡ Labelled x v → (not (formulaHeld (x .holds)) || eqb (x .code) 5) ≡ true
   unfolding known all label
@@ -116,6 +122,23 @@ module _ (k : ℕ) where
     value-none = value-formula k;
     value-all = value-entries k;
   })
+
+  -- THE FORMULA'S VALUE: no two
+  only-once : (b : Bool) (v : Bytes) → several (onlyIf b v) ≡ false
+  only-once true v = refl
+  only-once false v = refl
+
+  pub values-once : (st : State) (ls : List Bytes) → along k (placed k) st ls ≡ true → several (flat (valueIn Formula) (told (st .running) ls)) ≡ false
+  values-once st ls p = sym (once-is k (λ s. false) (valueIn Formula) several formulaHeld 5 (record {
+    moved = λ s l. refl;
+    named-seen = λ s x. refl;
+    code-is = formula-code;
+    not-zero = refl;
+    further-state = λ h s l. refl;
+    further-none = λ h l. refl;
+    value-none = λ h s from v e. (refl, ap (λ (b : Bool). onlyIf b v) (formula-kind h ∙ e));
+    value-all = λ h s from v n e. sym (only-once (eqb 2 (kind h)) v);
+  }) st ls refl p)
 
   -- THE BLOCK ID
   pub id-is : (st : State) (ls : List Bytes) → st .body .id ≡ 0 → along k (placed k) st ls ≡ true → afters k st ls .body .id ≡ idAs (flat idOn (told (st .running) ls))

@@ -6,8 +6,8 @@ use mathlib.Core.Path.{_≡_, refl, sym, ap, _∙_}
 use mathlib.Core.Bool.{Bool, true, false}
 use mathlib.Core.List.{List, [], _∷_, _++_, map, append-nil}
 use native.Mathlib.Omega.{arith}
-use lib.ListN.{length, drop, length-replicate}
-use lib.IntN.{ℤ, pos}
+use lib.ListN.{length, drop}
+use lib.IntN.{ℤ}
 use lib.Dec.{ltb}
 use borrow.Author.Tests.{le-ltb}
 use Rattle.lists.specs.Lists.{all, any}
@@ -16,7 +16,7 @@ use Rattle.format.specs.Structure.{Structure, wellFormed}
 use Rattle.format.specs.Reading.{strict, Span, Read, readBlock}
 use Rattle.format.specs.Table.{zeros, encode, textFine, textAt, sound, ReadResult, tableOf, readResult}
 use Rattle.format.specs.Writing.{WriteResult, writtenAs, formOf, writeResult}
-use Rattle.format.proofs.RefusedLaws.{long-read}
+use Rattle.format.proofs.RefusedLaws.{zeros-long, long-read}
 use Rattle.demands.specs.WayBack.{TableBack}
 use Rattle.demands.specs.Accepted.{Obeys}
 use Rattle.demands.specs.ReadAs.{structureIn, spansIn}
@@ -30,10 +30,6 @@ use Rattle.demands.proofs.AcceptedSoundRows.{structure-fine}
 use Rattle.demands.proofs.AcceptedSoundTexts.{texts-fine, texts-ok}
 
 -- a block that is read obeys
-zeros-long : 3856 ≤ length (zeros 3856)
-unfolding zeros
-zeros-long = omega (arith, length-replicate 3856 (pos 0))
-
 read-obeys : (k : ℕ) (b : Bytes) (s : Structure) (spans : List Span) → readBlock (strict k) b ≡ Read s spans → Obeys k b
 read-obeys k b s spans e =
     accepted-iff k b (zeros 3856) zeros-long .0 (ap (λ (r : ReadResult). r .number) (long-read k b (zeros 3856) zeros-long ∙ ap (tableOf (drop 3856 (zeros 3856))) e))

@@ -2,7 +2,7 @@
 -- passes and END was reached. The first stage of "accepted exactly when"; document 01, "Refusal numbers". Assumes nothing.
 use Prim.Native.Nat.{ℕ, suc, _+_, _-_}
 use mathlib.Core.Path.{_≡_, refl, sym, ap, _∙_}
-use mathlib.Core.Bool.{Bool, true, false, not, _&&_, _||_, or-false}
+use mathlib.Core.Bool.{Bool, true, false, not, _&&_, _||_, and-true, or-false}
 use mathlib.Core.Option.{Option, none, some}
 use mathlib.Core.List.{List, [], _∷_, _++_, map}
 use native.Mathlib.Omega.{arith}
@@ -21,6 +21,7 @@ use Rattle.format.specs.Reading.{strict, State, prose, Turn, Go, Stop, if_stop_
 use Rattle.format.proofs.ByteLaws.{gap-small}
 use Rattle.format.proofs.ReadingLaws.{read-go, read-stop, read-end}
 use Rattle.demands.specs.Accepted.{listed, rowOn, entriesAs, fits, rowFits, atomFine, rowFine, formulaFine, versionFine, idFine, valueRule, furtherRule, atomOf, unparted}
+use Rattle.demands.proofs.AcceptedContents.{formulaHeld}
 
 -- THE STATE AFTER A LINE, whatever was tested
 abbrev pub addAll : {A : Type 0} → (State → A → State) → State → List A → State
@@ -106,6 +107,13 @@ listPasses test (Rows m) l = rowPasses (rowShape m) (test m) (fields (strip l))
 listPasses test End l = true
 listPasses test Skipped l = true
 
+-- of MOLFORM's value the reading asks that the machine reads a fine formula, of any value its own rule
+abbrev pub formulaPasses : (k : ℕ) → Bytes → Bool
+formulaPasses k v = fits (formulaFine k) (formulaShape (strip v))
+
+abbrev pub valueTest : (k : ℕ) → Holds → Bytes → Bool
+valueTest k h v = (not (formulaHeld h) || formulaPasses k v) && valueRule k h v
+
 abbrev pub onLine : (value further : Holds → Bytes → Bool) → Holds → Bytes → Line → Bool
 onLine value further h l Plain = further h l
 onLine value further h l Unparted = true
@@ -158,7 +166,7 @@ rowTests k st l line =
     && (onLine (listPasses (heldAt st)) (listPasses (heldAt st)) (st .running) l line && endAt st line))))
 
 abbrev lineTests : (k : ℕ) → State → Bytes → Line → Bool
-lineTests k st l line = not (unparted line) && (placedAt st line && (closedAt st l && (onLine (valueRule k) (furtherRule k) (st .running) l line && rowTests k st l line)))
+lineTests k st l line = not (unparted line) && (placedAt st line && (closedAt st l && (onLine (valueTest k) (furtherRule k) (st .running) l line && rowTests k st l line)))
 
 abbrev pub keepsAs : (k : ℕ) → State → Bytes → Line → Bool
 keepsAs k st l line = all allowed l && (titledAt st l && lineTests k st l line)
@@ -283,11 +291,11 @@ module _ (k : ℕ) (st : State) where
   further-gone End l = blank-gone 17 l
   further-gone Skipped l = refl
 
-  value-gone : (h : Holds) (from : ℕ) (v : Bytes) → goneTo (valueTurn (strict k) h st from v) ≡ when (valueRule k h v && (atomPasses (nextAtom st) h v && (atomPasses (roomAt st) h v && (listPasses (listedAt st) h v && (listPasses (apartAt st) h v && (listPasses (heldAt st) h v && (not (over h) || complete st))))))) (afterValue k h st from v)
+  value-gone : (h : Holds) (from : ℕ) (v : Bytes) → goneTo (valueTurn (strict k) h st from v) ≡ when (valueTest k h v && (atomPasses (nextAtom st) h v && (atomPasses (roomAt st) h v && (listPasses (listedAt st) h v && (listPasses (apartAt st) h v && (listPasses (heldAt st) h v && (not (over h) || complete st))))))) (afterValue k h st from v)
   unfolding valueTurn
   value-gone (Text i) from v = refl
   value-gone Version from v = version-gone (fields (strip v))
-  value-gone Formula from v = formula-gone (formulaShape (strip v))
+  value-gone Formula from v = formula-gone (formulaShape (strip v)) ∙ ap (λ (t : Bool). when t (addFormula k st (formulaShape (strip v)))) (sym (and-true (formulaPasses k v && true)))
   value-gone BlockId from v = id-gone (fields (strip v))
   value-gone Atoms from v = atoms-gone (fields (strip v))
   value-gone (Rows r) from v = rows-gone r (fields (strip v))
@@ -318,7 +326,7 @@ module _ (k : ℕ) (st : State) (l : Bytes) where
   line-gone Unparted e = refl
   line-gone (Labelled x v) e =
       if-so (misplaced (st .seen) x) _ 6 _ _ (if-so (over (st .running)) _ 17 _ _ (value-gone k (opened st x) (x .holds) (st .at + (length l - length v)) v))
-      ∙ ap (λ (t : Bool). when (not (misplaced (st .seen) x) && (t && (valueRule k (x .holds) v && rowTests k st l (Labelled x v)))) (afterAs k st l (Labelled x v)))
+      ∙ ap (λ (t : Bool). when (not (misplaced (st .seen) x) && (t && (valueTest k (x .holds) v && rowTests k st l (Labelled x v)))) (afterAs k st l (Labelled x v)))
       (sym (ap (λ (t : Bool). not (over (st .running)) || t) (label-inked l x v e) ∙ or-false (not (over (st .running)))))
 
   pub step-gone : goneTo (lineStep (strict k) st l) ≡ when (keepsAs k st l (lineOf l)) (afterAs k st l (lineOf l))

@@ -1,30 +1,37 @@
 -- The demands of document 01, each in its words and in one statement, proved by one citation. Nothing else stands in this file. Assumes nothing.
 use Prim.Native.Nat.{ℕ, _+_, _<_, _≤_}
 use mathlib.Core.Path.{_≡_}
-use mathlib.Core.Bool.{true}
+use mathlib.Core.Bool.{true, false}
+use mathlib.Core.Option.{some}
 use mathlib.Core.List.{List, [], _∷_, _++_, map}
-use lib.ListN.{length, drop, replicate}
+use lib.ListN.{length, getD, drop, replicate}
 use lib.IntN.{ℤ}
 use lib.Dec.{ltb}
 use Rattle.lists.specs.Lists.{all, any}
 use Rattle.format.specs.Bytes.{Bytes, bytes, isIn, cut, whole}
-use Rattle.format.specs.Labels.{endLine}
-use Rattle.format.specs.Structure.{Isotope, Entry, total, agree, Structure, wellFormed}
+use Rattle.format.specs.Labels.{ListOf, endLine}
+use Rattle.format.specs.Rows.{Row}
+use Rattle.format.specs.Formula.{Counted, formulaShape}
+use Rattle.format.specs.Grammar.{Says}
+use Rattle.format.specs.Structure.{Isotope, Entry, total, agree, Atom, Structure, rowsOf, wellFormed}
 use Rattle.format.specs.Reading.{strict, Span, Read, readBlock}
-use Rattle.format.specs.Table.{zeros, encode, textFine, textAt, sound, readAnswer, readResult}
+use Rattle.format.specs.Table.{zeros, width, rowPlace, atomPlace, textPlace, rowCells, spanCells, encode, textFine, textAt, sound, readAnswer, readResult}
 use Rattle.format.specs.Writing.{canonical, formOf, unwritten, writtenAs, writeResult}
-use Rattle.format.specs.Walking.{block, piece, pieces, answers}
+use Rattle.format.specs.Walking.{block, piece, pieces, Answer, toldOf, answers}
 use Rattle.format.proofs.RefusedLaws as short
 use Rattle.format.proofs.TotalLaws as totals
+use Rattle.format.proofs.GrammarLaws as grammar
 use Rattle.demands.specs.Cases.{judged}
 use Rattle.demands.specs.Starred.{starred}
 use Rattle.demands.specs.Neighbours.{neighbours}
-use Rattle.demands.specs.Examples.{formicInput, formicWritten, formicTable, neon, wrongNeon}
-use Rattle.demands.specs.Stretches.{closing, opening, moved, _then_, Chain, steps}
+use Rattle.demands.specs.Examples.{formicInput, formicWritten, formicTable, neon, wrongNeon, exampleFile, printedAll, exampleLines}
+use Rattle.demands.specs.Stretches.{closing, opening, moved, _then_, textsTold, textsFrom, Chain, straysAdjoin, titleInStray, steps}
 use Rattle.demands.specs.WayBack.{ReadBack, TableBack, WrittenAgain, OneBlock}
 use Rattle.demands.specs.Accepted.{Obeys, _exactlyWhen_}
 use Rattle.demands.specs.ReadAs.{structureIn, spansIn}
 use Rattle.demands.specs.ReadWritten.{formIn}
+use Rattle.demands.specs.Places.{numbersAt, atomNumbers}
+use Rattle.demands.specs.Demands.{Demand1, Demand2, Demand3}
 use Rattle.demands.proofs.Accepted as accepted
 use Rattle.demands.proofs.AcceptedSound as kept
 use Rattle.demands.proofs.ReadAs as read
@@ -35,6 +42,10 @@ use Rattle.demands.proofs.WayBack as back
 use Rattle.demands.proofs.WayBackTables as tables
 use Rattle.demands.proofs.WayBackSound as again
 use Rattle.demands.proofs.WayBackWalk as walk
+use Rattle.demands.proofs.PlacesHold as places
+use Rattle.demands.proofs.TextsTold as told
+use Rattle.demands.proofs.Strays as strays
+use Rattle.demands.proofs.Today as today
 
 -- DEMAND 1
 -- "A refused reading zeroes the structure table, save where that table is too short and is untouched."
@@ -49,14 +60,23 @@ pub refused-write : (k : ℕ) (t : List ℤ) (b buffer : Bytes) → (writeResult
 refused-write = refused.refused-write
 
 -- DEMAND 2
--- a block is accepted exactly when each line breaks no rule of its own, the labels stand in order, no two rows of one list clash, the lists keep their limits, the
--- required records are there, the formula's totals are the atoms' for every element and mass, and one END line stands there with only blanks behind it
+-- a block is accepted exactly when each line breaks no rule of its own, MOLFORM says a formula by the grammar, the labels stand in order, no two rows of one list clash,
+-- the lists keep their limits, the required records are there, the formula's totals are the atoms' for every element and mass, and one END line stands there with
+-- only blanks behind it
 pub accepted-iff : (k : ℕ) (b : Bytes) (t : List ℤ) → 3856 ≤ length t → (readResult k b t .number ≡ 0) exactlyWhen Obeys k b
 accepted-iff = accepted.accepted-iff
 
 -- and its table is then, number for number, that of its atoms in order, of the rows of each list sorted and without repeats, of its block id and of its texts
 pub table-is : (k : ℕ) (b : Bytes) (t : List ℤ) → 3856 ≤ length t → Obeys k b → readResult k b t ≡ readAnswer 0 0 (encode (structureIn k b) (spansIn b) ++ drop 3856 t)
 table-is = read.table-is
+
+-- "MOLFORM: entries of a symbol and an optional count ..": the machine that reads a formula gives a list of entries exactly when the grammar says that list of its
+-- bytes; and the grammar says no two lists of them
+pub formula-grammar : (v : Bytes) (cs : List Counted) → (formulaShape v ≡ some cs) exactlyWhen Says v cs
+formula-grammar = grammar.formula-grammar
+
+pub formula-once : (v : Bytes) (cs ds : List Counted) → Says v cs → Says v ds → cs ≡ ds
+formula-once = grammar.formula-once
 
 -- of every accepted block the structure is well-formed, the texts are fine, and the table is sound with the block as the texts' bytes (1 ≤ k: D and T are hydrogen)
 pub read-sound : (k : ℕ) (b : Bytes) (s : Structure) (spans : List Span) → 1 ≤ k → readBlock (strict k) b ≡ Read s spans →
@@ -75,7 +95,7 @@ pub read-then-written : (k : ℕ) (b : Bytes) (t : List ℤ) → 1 ≤ k → 385
     isIn (writeResult k (readResult k b t .table) b buffer .number) (0 ∷ 22 ∷ 23 ∷ []) ≡ true
 read-then-written = kept.read-then-written
 
--- and what is read, written and read again gives the same numbers but for the places of the texts, where texts of the same content stand
+-- and what is read, written and read again gives a sound table with the same numbers but for the starts of the texts, where texts of the same content stand
 pub read-written-read : (k : ℕ) (b : Bytes) (t : List ℤ) → 1 ≤ k → 3856 ≤ length t → readResult k b t .number ≡ 0 → (buffer : Bytes) (into : List ℤ) → k ≤ 103 →
     length (formOf (readResult k b t .table) b) ≤ 32768 → length (formOf (readResult k b t .table) b) ≤ length buffer → 3856 ≤ length into → TableBack k (readResult k b t .table) b buffer into
 read-written-read = kept.read-written-read
@@ -110,8 +130,8 @@ pub way-back : (k : ℕ) (s : Structure) (title origin owner : Bytes) → k ≤ 
     length (canonical s (title ∷ origin ∷ owner ∷ [])) ≤ 32768 → ReadBack k s (title ∷ origin ∷ owner ∷ [])
 way-back = back.way-back
 
--- and over tables: a sound table whose form fits the limit and the buffer is written, and its form, read into any table, gives the same numbers but for the places
--- of the texts, where texts of the same content stand
+-- and over tables: a sound table whose form fits the limit and the buffer is written, and "reading it back gives the same table and texts, though the texts may stand
+-- elsewhere": only the three starts may differ, and the table read back is sound with the form
 pub table-back : (k : ℕ) (t : List ℤ) (b buffer : Bytes) (into : List ℤ) → k ≤ 103 → 3856 ≤ length t → sound k t b ≡ true → length (formOf t b) ≤ 32768 → length (formOf t b) ≤ length buffer →
     3856 ≤ length into → TableBack k t b buffer into
 table-back = tables.table-back
@@ -130,10 +150,23 @@ pub canonical-piece : (k : ℕ) (s : Structure) (title origin owner : Bytes) →
     length (canonical s (title ∷ origin ∷ owner ∷ [])) ≤ 32768 → pieces (canonical s (title ∷ origin ∷ owner ∷ [])) ≡ piece block 0 (length (canonical s (title ∷ origin ∷ owner ∷ []))) ∷ []
 canonical-piece = walk.canonical-piece
 
+-- what stands in the table of a well-formed structure at a record's place is that record: row i of a list, atom i + 1 with its charge and radical row, text i
+pub row-in-place : (k : ℕ) (s : Structure) (title origin owner : Span) → wellFormed k s ≡ true → (l : ListOf) (i : ℕ) (other : Row) → i < length (rowsOf l s) →
+    numbersAt (rowPlace l i) (width l) (encode s (title ∷ origin ∷ owner ∷ [])) ≡ rowCells l (getD (rowsOf l s) i other)
+row-in-place = places.row-in-place
+
+pub atom-in-place : (k : ℕ) (s : Structure) (title origin owner : Span) → wellFormed k s ≡ true → (i : ℕ) (other : Atom) → i < length (s .atoms) →
+    numbersAt (atomPlace i) 5 (encode s (title ∷ origin ∷ owner ∷ [])) ≡ atomNumbers s i other
+atom-in-place = places.atom-in-place
+
+pub text-in-place : (s : Structure) (title origin owner : Span) (i : ℕ) (other : Span) → i < 3 →
+    numbersAt (textPlace i) 2 (encode s (title ∷ origin ∷ owner ∷ [])) ≡ spanCells (getD (title ∷ origin ∷ owner ∷ []) i other)
+text-in-place = places.text-in-place
+
 -- DEMAND 3
 -- "Take a file of three stretches, within the file limit: the first empty or ending with a block closed by its END line and line feed; the second anything,
 -- empty or ending in a line feed; the third empty or starting with a TITLE line. The answers for the file are those for each stretch read alone, one after the
--- other, only the file places moved along."
+-- other, only the file places moved along." "tables and texts included": an answer carries its block's table and the bytes of its three texts
 pub three-stretches : (k : ℕ) (a b c : Bytes) → length (a ++ (b ++ c)) ≤ 16777216 → closing a ≡ true → whole b ≡ true → opening c ≡ true →
     answers k (a ++ (b ++ c)) ≡ answers k a then moved (length a) (answers k b) then moved (length a + length b) (answers k c)
 three-stretches = stretches.three-stretches
@@ -141,6 +174,17 @@ three-stretches = stretches.three-stretches
 -- there are such stretches, none of them empty: the neon block, the one with `2 Ne`, the neon block again
 pub stretches-met : (length (bytes neon ++ (bytes wrongNeon ++ bytes neon)) ≤ 16777216) × (closing (bytes neon) ≡ true) × (whole (bytes wrongNeon) ≡ true) × (opening (bytes neon) ≡ true)
 stretches-met = stretches.met
+
+-- the texts that an answer tells are of an accepted block the title, origin and owner that its records hold, of a refused one three empty ones; and they stand in
+-- the file where the table has them, counted from the block's start
+pub accepted-texts : (k : ℕ) (b : Bytes) → Obeys k b → textsTold (toldOf k block b) ≡ map (textAt b) (spansIn b)
+accepted-texts = told.accepted-texts
+
+pub refused-texts : (k : ℕ) (b : Bytes) → (Obeys k b → ⊥) → textsTold (toldOf k block b) ≡ [] ∷ [] ∷ [] ∷ []
+refused-texts = told.refused-texts
+
+pub texts-told : (k : ℕ) (s : Bytes) → 1 ≤ k → (l : List Answer) → answers k s ≡ some l → map (λ a. textsTold (a .told)) l ≡ map (λ a. textsFrom (a .of .from) s (a .told)) l
+texts-told = told.texts-told
 
 -- "No block without an END line is accepted."
 pub accepted-has-end : (k : ℕ) (b : Bytes) (t : List ℤ) → readResult k b t .number ≡ 0 → any endLine (cut b) ≡ true
@@ -153,3 +197,24 @@ lengths-add-up = stretches.chained
 -- "The answers for a file are these from place 0 on": what the walk gives step by step, each from where the one before ended, are the pieces of the answers
 pub steps-are : (s : Bytes) → length s ≤ 16777216 → steps (length s) s 0 ≡ pieces s
 steps-are = stretches.steps-are
+
+-- "stray runs, as long as they can be": none stands right behind another, and in none is a TITLE line, with which a block would start
+pub strays-apart : (s : Bytes) → straysAdjoin (pieces s) ≡ false
+strays-apart = strays.strays-apart
+
+pub strays-untitled : (s : Bytes) → any (titleInStray s) (pieces s) ≡ false
+strays-untitled = strays.strays-untitled
+
+-- the neon block, the line `junk`, the block with `2 Ne` and a lone TITLE line give the four lines of document 01
+pub example-walked : printedAll (answers 103 exampleFile) ≡ some exampleLines
+example-walked = worked.example-walked
+
+-- THE DEMANDS AT THE 103 ELEMENTS OF TODAY: each demand's theorems above, as one, with nothing asked of the number of elements
+pub demand-1 : Demand1 103
+demand-1 = today.demand-1
+
+pub demand-2 : Demand2 103
+demand-2 = today.demand-2
+
+pub demand-3 : Demand3 103
+demand-3 = today.demand-3

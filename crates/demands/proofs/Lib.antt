@@ -2,6 +2,7 @@
 pub mod Worked
 pub mod Refused
 pub mod Stretches
+pub mod Strays
 pub mod WayBackLines
 pub mod WayBackLabels
 pub mod WayBackTexts
@@ -11,12 +12,13 @@ pub mod WayBackFormula
 pub mod WayBackRecords
 pub mod WayBackLists
 pub mod WayBack
-pub mod WayBackTables
 pub mod WayBackForm
 pub mod WayBackWalk
 pub mod WayBackMembers
 pub mod WayBackDecoded
 pub mod WayBackSound
+pub mod WayBackTables
+pub mod PlacesHold
 pub mod AcceptedSteps
 pub mod AcceptedContents
 pub mod AcceptedState
@@ -24,6 +26,7 @@ pub mod AcceptedLines
 pub mod AcceptedRows
 pub mod AcceptedOrder
 pub mod AcceptedOnce
+pub mod AcceptedFormula
 pub mod AcceptedTexts
 pub mod Accepted
 pub mod ReadAs
@@ -31,4 +34,6 @@ pub mod AcceptedSoundShapes
 pub mod AcceptedSoundRows
 pub mod AcceptedSoundTexts
 pub mod AcceptedSound
+pub mod TextsTold
+pub mod Today
 pub mod Demands

@@ -28,7 +28,7 @@ use Rattle.demands.specs.Examples.{neon, wrongNeon}
 use Rattle.demands.specs.Stretches.{lastFrom, lastIs, isBlock, closing, titledLines, opening, along, moved, _then_, Chain, steps}
 
 -- how many bytes lines have
-abbrev total : List Bytes → ℕ
+abbrev pub total : List Bytes → ℕ
 total ls = length (concat ls)
 
 total-cons : (at : ℕ) (l : Bytes) (ls : List Bytes) → at + length l + total ls ≡ at + total (l ∷ ls)

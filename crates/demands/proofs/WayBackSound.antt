@@ -9,6 +9,7 @@ use native.Mathlib.Nat.{min-eq-right}
 use lib.ListN.{length, take, drop, length-append}
 use lib.Seq.{take-at, drop-at, drop-drop}
 use lib.IntN.{ℤ, pos, negsuc}
+use borrow.Author.Tests.{le-ltb}
 use Rattle.lists.specs.Lists.{all, pairs, sameBy, flat, filled, rowsFrom}
 use Rattle.lists.proofs.Bools.{and-both, eqb-same}
 use Rattle.lists.proofs.PartLaws.{filled-is, filled-length}
@@ -26,7 +27,6 @@ use Rattle.demands.proofs.WayBack.{Fine, fine-structure, way-back}
 use Rattle.demands.proofs.WayBackMembers.{spread-rows}
 use Rattle.demands.proofs.WayBackDecoded.{row-wide, bond-back, centre-back, pair-back, part-long, spread-fine, recordsOf, records-taken, records-atoms, records-long, charge-marks, radical-marks, cells-long, values-charges, values-radicals, values-taken, no-group}
 use Rattle.format.proofs.RefusedLaws.{long-read}
-use Rattle.demands.proofs.WayBackTables.{form-written}
 
 -- a structure from its seven parts
 decoded-by : (t : List ℤ) (s : Structure) → map atomAt (atomRecords t) ≡ s .atoms → rowsFrom 3 bondAt (countAt t 1 512) (drop 1296 t) ≡ s .bonds →
@@ -43,16 +43,16 @@ peel : (t a b : List ℤ) (from size to : ℕ) → drop from t ≡ a ++ b → le
 peel t a b from size to e l n = ap (λ (i : ℕ). drop i t) (sym n) ∙ sym (drop-drop size from t) ∙ ap (drop size) e ∙ drop-at a b size l
 
 module _ (k : ℕ) (s : Structure) (ok : Fine k s) (a b c : Span) (beyond : List ℤ) where
-  abbrev numbers : List ℤ
+  abbrev pub numbers : List ℤ
   numbers = encode s (a ∷ b ∷ c ∷ [])
 
-  abbrev table : List ℤ
+  abbrev pub table : List ℤ
   table = numbers ++ beyond
 
-  abbrev atomsPart : List ℤ
+  abbrev pub atomsPart : List ℤ
   atomsPart = filled (pos 0) 1280 (atomCells 1 (s .charges) (s .radicals) (s .atoms))
 
-  abbrev partOf : ListOf → List ℤ
+  abbrev pub partOf : ListOf → List ℤ
   partOf l = rowsPart s l
 
   atoms-long : length atomsPart ≡ 1280
@@ -62,26 +62,26 @@ module _ (k : ℕ) (s : Structure) (ok : Fine k s) (a b c : Span) (beyond : List
   long l = part-long (length (s .atoms)) s l (ok .rows l)
 
   -- the parts behind the first sixteen numbers
-  from-atoms : drop 16 table ≡ atomsPart ++ (flat partOf lists ++ beyond)
+  pub from-atoms : drop 16 table ≡ atomsPart ++ (flat partOf lists ++ beyond)
   unfolding encode counts derived flat
   from-atoms = append-assoc atomsPart (flat partOf lists) beyond
 
-  from-bonds : drop 1296 table ≡ partOf Bonds ++ (partOf Charges ++ (partOf Radicals ++ (partOf Centres ++ (partOf Pairs ++ beyond))))
+  pub from-bonds : drop 1296 table ≡ partOf Bonds ++ (partOf Charges ++ (partOf Radicals ++ (partOf Centres ++ (partOf Pairs ++ beyond))))
   from-bonds = peel table atomsPart (flat partOf lists ++ beyond) 16 1280 1296 from-atoms atoms-long refl ∙ lists-flat partOf beyond
 
-  from-charges : drop 2832 table ≡ partOf Charges ++ (partOf Radicals ++ (partOf Centres ++ (partOf Pairs ++ beyond)))
+  pub from-charges : drop 2832 table ≡ partOf Charges ++ (partOf Radicals ++ (partOf Centres ++ (partOf Pairs ++ beyond)))
   unfolding width most
   from-charges = peel table (partOf Bonds) _ 1296 1536 2832 from-bonds (long Bonds) refl
 
-  from-radicals : drop 2896 table ≡ partOf Radicals ++ (partOf Centres ++ (partOf Pairs ++ beyond))
+  pub from-radicals : drop 2896 table ≡ partOf Radicals ++ (partOf Centres ++ (partOf Pairs ++ beyond))
   unfolding width most
   from-radicals = peel table (partOf Charges) _ 2832 64 2896 from-charges (long Charges) refl
 
-  from-centres : drop 2960 table ≡ partOf Centres ++ (partOf Pairs ++ beyond)
+  pub from-centres : drop 2960 table ≡ partOf Centres ++ (partOf Pairs ++ beyond)
   unfolding width most
   from-centres = peel table (partOf Radicals) _ 2896 64 2960 from-radicals (long Radicals) refl
 
-  from-pairs : drop 3344 table ≡ partOf Pairs ++ beyond
+  pub from-pairs : drop 3344 table ≡ partOf Pairs ++ beyond
   unfolding width most
   from-pairs = peel table (partOf Centres) _ 2960 384 3344 from-centres (long Centres) refl
 
@@ -201,6 +201,13 @@ module _ (k : ℕ) (s : Structure) (ok : Fine k s) (a b c : Span) (beyond : List
   pub form-of : (block : Bytes) → formOf table block ≡ canonical s (map (textAt block) (a ∷ b ∷ c ∷ []))
   unfolding formOf
   form-of block = ap (λ (x : Structure). canonical x (map (textAt block) (spansOf table))) decode-back ∙ ap (λ (l : List Span). canonical s (map (textAt block) l)) spans-back
+
+-- WRITTEN: a sound table whose form fits into the limit and into the buffer
+pub form-written : (k : ℕ) (t : List ℤ) (b buffer : Bytes) → 3856 ≤ length t → sound k t b ≡ true → length (formOf t b) ≤ 32768 → length (formOf t b) ≤ length buffer →
+    writeResult k t b buffer ≡ record { number = 0; count = length (formOf t b); buffer = formOf t b ++ drop (length (formOf t b)) buffer }
+unfolding writeResult
+form-written k t b buffer long ok fits room =
+    rw (le-ltb (length t) 3856 long, ok, le-ltb 32768 (length (formOf t b)) fits, le-ltb (length buffer) (length (formOf t b)) room, writeResult) refl
 
 -- A FORM WRITTEN AGAIN FROM ITS OWN READING: it is accepted, the table that it is read into is sound, and that table's form is the form again
 pub written-again : (k : ℕ) (s : Structure) (t0 t1 t2 : Bytes) → k ≤ 103 → wellFormed k s ≡ true → all textFine (t0 ∷ t1 ∷ t2 ∷ []) ≡ true →

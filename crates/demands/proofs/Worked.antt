@@ -1,18 +1,18 @@
 -- The cases and worked examples of document 01, computed from the definitions. Assumes nothing.
 use Prim.Native.Nat.{ℕ}
 use mathlib.Core.Path.{_≡_, refl}
-use mathlib.Core.Option.{Option, none, some}
+use mathlib.Core.Option.{some}
 use mathlib.Core.List.{List, [], _∷_, _++_, map}
 use lib.ListN.{replicate}
 use lib.IntN.{ℤ, pos}
 use Rattle.format.specs.Bytes.{bytes}
 use Rattle.format.specs.Table.{zeros, readAnswer, readResult}
 use Rattle.format.specs.Writing.{WriteResult, writeResult}
-use Rattle.format.specs.Walking.{Answer, answers, block, stray, piece, Found, Finished, NotWalked, walkAt, nameOf, checkOf}
+use Rattle.format.specs.Walking.{answers, block, stray, piece, Found, Finished, NotWalked, walkAt, nameOf, checkOf}
 use Rattle.demands.specs.Cases.{Case, judged}
 use Rattle.demands.specs.Starred.{starred}
 use Rattle.demands.specs.Neighbours.{neighbours}
-use Rattle.demands.specs.Examples.{formicInput, formicWritten, formicTable, neon, exampleFile, Printed, printed, exampleLines}
+use Rattle.demands.specs.Examples.{formicInput, formicWritten, formicTable, neon, exampleFile, printedAll, exampleLines}
 use Rattle.format.proofs.Computing.{computing}
 
 pub starred-hold : map judged starred ≡ map (λ c. c .answer) starred
@@ -33,11 +33,7 @@ unfolding computing formicTable
 formic-written = refl
 
 -- the walk's example: its four lines, and single steps
-abbrev lines : Option (List Answer) → Option (List Printed)
-lines none = none
-lines (some l) = some (map printed l)
-
-pub example-walked : lines (answers 103 exampleFile) ≡ some exampleLines
+pub example-walked : printedAll (answers 103 exampleFile) ≡ some exampleLines
 unfolding computing exampleFile
 example-walked = refl
 

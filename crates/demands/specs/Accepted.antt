@@ -12,7 +12,8 @@ use Rattle.lists.specs.Folding.{kept}
 use Rattle.format.specs.Bytes.{Bytes, bytes, within, same, gap, allowed, cut, fields, strip}
 use Rattle.format.specs.Labels.{ListOf, Bonds, Charges, Radicals, Centres, Pairs, Holds, Text, Version, Formula, BlockId, Atoms, Rows, End, Skipped, Label, Line, Plain, Unparted, Labelled, lineOf, titleLine, endLine}
 use Rattle.format.specs.Rows.{Row, AtomRow, number, field, atomShape, rowShape}
-use Rattle.format.specs.Formula.{Counted, formulaShape}
+use Rattle.format.specs.Formula.{Counted}
+use Rattle.format.specs.Grammar.{Says}
 use Rattle.format.specs.Structure.{Isotope, isotope, unknown, massOk, Atom, most, ranged, meets, clash, Entry, entry, entriesOf, total}
 use Rattle.format.specs.Reading.{ordered, noted}
 
@@ -139,10 +140,11 @@ versionFine fs = same (field 0 fs) (bytes "3.7") && isNil (drop 1 fs)
 abbrev pub idFine : List Bytes → Bool
 idFine fs = fits (λ n. isNil (drop 1 fs) && not (eqb n 0)) (number (field 0 fs))
 
+-- of MOLFORM's value the grammar judges, in `Obeys`
 abbrev pub valueRule : (k : ℕ) → Holds → Bytes → Bool
 valueRule k (Text i) v = true
 valueRule k Version v = versionFine (fields (strip v))
-valueRule k Formula v = fits (formulaFine k) (formulaShape (strip v))
+valueRule k Formula v = true
 valueRule k BlockId v = idFine (fields (strip v))
 valueRule k Atoms v = rowFits atomShape (atomFine k) (fields (strip v))
 valueRule k (Rows l) v = rowFits (rowShape l) (rowFine l) (fields (strip v))
@@ -169,7 +171,7 @@ unfoldable pub numbered : (from : ℕ) → List AtomRow → Bool
 numbered n [] = true
 numbered n (r ∷ rs) = eqb (r .number) n && numbered (suc n) rs
 
--- THE BLOCK: its lines as they count, its atom rows, the rows of each list with their atoms ascending, the formula's entries
+-- THE BLOCK: its lines as they count, its atom rows, the rows of each list with their atoms ascending, the values of MOLFORM
 abbrev pub toldOf : Bytes → List Told
 toldOf b = told Skipped (cut b)
 
@@ -179,8 +181,8 @@ atomRows b = rowsBy atomShape (flat (lineIn Atoms) (toldOf b))
 abbrev pub listRows : ListOf → Bytes → List Row
 listRows l b = map ordered (rowsBy (rowShape l) (flat (lineIn (Rows l)) (toldOf b)))
 
-abbrev pub formulaIn : (k : ℕ) → Bytes → List Entry
-formulaIn k b = flat (λ v. entriesAs k (formulaShape (strip v))) (flat (valueIn Formula) (toldOf b))
+abbrev pub molforms : Bytes → List Bytes
+molforms b = flat (valueIn Formula) (toldOf b)
 
 pub record Obeys (k : ℕ) (b : Bytes) : Type 0 where
   -- "The longest block has 32,768 bytes." "Allowed bytes: 9, 10, 13 and 32 to 126."
@@ -192,6 +194,12 @@ pub record Obeys (k : ℕ) (b : Bytes) : Type 0 where
   pub labels-ordered : pairs outOfOrder (labels (cut b)) ≡ false
   -- each line keeps the rules of its own
   pub lines-fine : all (ownRule k) (toldOf b) ≡ true
+  -- MOLFORM has one value; without its comment it says, by the grammar, a formula, whose masses, counts and symbols are fine
+  pub molform : Bytes
+  pub molform-once : molforms b ≡ molform ∷ []
+  pub formula : List Counted
+  pub formula-said : Says (strip molform) formula
+  pub formula-fine : formulaFine k formula ≡ true
   -- the atoms are numbered 1, 2, 3 and on, and are 1 to 256
   pub atoms-numbered : numbered 1 (atomRows b) ≡ true
   pub atoms-held : length (atomRows b) ≤ 256
@@ -203,7 +211,7 @@ pub record Obeys (k : ℕ) (b : Bytes) : Type 0 where
   -- JCAMP-CS, ORIGIN, OWNER, MOLFORM are there
   pub required : all (named (labels (cut b))) (2 ∷ 3 ∷ 4 ∷ 5 ∷ []) ≡ true
   -- "for every element and mass, the formula's total over all fragments equals the atoms listed, with implied hydrogens counted as hydrogen without mass"
-  pub totals : (i : Isotope) → total i (formulaIn k b) ≡ total i (entriesOf (map (atomOf k) (atomRows b)))
+  pub totals : (i : Isotope) → total i (entriesAs k (some formula)) ≡ total i (entriesOf (map (atomOf k) (atomRows b)))
   -- an END line stands there, and behind it only blanks
   pub end-there : any endLine (cut b) ≡ true
   pub end-last : all (all gap) (behindEnd (cut b)) ≡ true

@@ -1,7 +1,8 @@
 -- The worked examples of document 01: formic acid as it is read and as it is written, and the file of "Walking a transfer file". Assumes nothing.
 use Prim.Native.Nat.{ℕ, zero, suc, _+_}
 use Prim.Native.String.{String}
-use mathlib.Core.List.{List, [], _∷_, _++_}
+use mathlib.Core.Option.{Option, none, some}
+use mathlib.Core.List.{List, [], _∷_, _++_, map}
 use lib.ListN.{getD}
 use lib.IntN.{ℤ, pos, natAbs}
 use Rattle.format.specs.Bytes.{Bytes, bytes}
@@ -46,11 +47,15 @@ placeInFile (suc n) from place = from + place
 
 abbrev pub printedAs : (from to : ℕ) → Told → Printed
 printedAs from to StrayRun = S from to
-printedAs from to (BlockRead r) =
+printedAs from to (BlockRead r texts) =
     B from to (r .number) (placeInFile (r .number) from (r .place)) (natAbs (getD (r .table) 0 (pos 0))) (natAbs (getD (r .table) 1 (pos 0)))
 
 abbrev pub printed : Answer → Printed
 printed a = printedAs (a .of .from) (a .of .to) (a .told)
+
+abbrev pub printedAll : Option (List Answer) → Option (List Printed)
+printedAll none = none
+printedAll (some l) = some (map printed l)
 
 -- "give:"
 abbrev pub exampleLines : List Printed

@@ -8,3 +8,5 @@ pub mod WayBack
 pub mod Accepted
 pub mod ReadAs
 pub mod ReadWritten
+pub mod Places
+pub mod Demands

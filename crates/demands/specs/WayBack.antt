@@ -12,7 +12,7 @@ use Rattle.format.specs.Labels.{titleLine, endLine}
 use Rattle.format.specs.Structure.{Structure}
 use Rattle.format.specs.Reading.{Span, Read, strict, readBlock}
 use Rattle.format.specs.Table.{encode, decode, spansOf, textAt, textOk, sound, readAnswer, readResult}
-use Rattle.format.specs.Writing.{canonical, WriteResult, formOf, writeResult}
+use Rattle.format.specs.Writing.{canonical, formOf, writeResult}
 
 -- the form of a structure and its texts is read as that structure, and where its three texts stand stand those texts, each as a sound table has it
 pub record ReadBack (k : ℕ) (s : Structure) (texts : List Bytes) : Type 0 where
@@ -23,25 +23,21 @@ pub record ReadBack (k : ℕ) (s : Structure) (texts : List Bytes) : Type 0 wher
   pub same-texts : map (textAt (canonical s texts)) (title ∷ origin ∷ owner ∷ []) ≡ texts
   pub sound-texts : all (textOk (canonical s texts)) (title ∷ origin ∷ owner ∷ []) ≡ true
 
--- a table's numbers but for those that say where the texts stand, 7 to 12
-abbrev pub withoutTexts : List ℤ → List ℤ
-withoutTexts t = take 7 t ++ drop 13 t
+-- a table's numbers but for the three starts of its texts, 7, 9 and 11: their lengths, 8, 10 and 12, are among them
+abbrev pub withoutStarts : List ℤ → List ℤ
+withoutStarts t = take 7 t ++ (take 1 (drop 8 t) ++ (take 1 (drop 10 t) ++ drop 12 t))
 
--- what a writing has written
-abbrev pub writtenForm : WriteResult → Bytes
-writtenForm r = take (r .count) (r .buffer)
-
--- a table is written; the bytes written are its form, and read into any table they are accepted, and give the same numbers but for the places of the texts, where
--- texts of the same content stand
+-- a table is written, as its form; the form read into any table is accepted and gives the same numbers but for the starts of the texts, where texts of the same
+-- content stand, and the table read back is sound with the form, so that they are in bounds
 pub record TableBack (k : ℕ) (t : List ℤ) (b buffer : Bytes) (into : List ℤ) : Type 0 where
   pub title : Span
   pub origin : Span
   pub owner : Span
-  pub written : writeResult k t b buffer .number ≡ 0
-  pub form : writtenForm (writeResult k t b buffer) ≡ formOf t b
+  pub written : writeResult k t b buffer ≡ record { number = 0; count = length (formOf t b); buffer = formOf t b ++ drop (length (formOf t b)) buffer }
   pub reads : readResult k (formOf t b) into ≡ readAnswer 0 0 (encode (decode t) (title ∷ origin ∷ owner ∷ []) ++ drop 3856 into)
-  pub same-numbers : withoutTexts (encode (decode t) (title ∷ origin ∷ owner ∷ [])) ≡ withoutTexts (take 3856 t)
+  pub same-numbers : withoutStarts (encode (decode t) (title ∷ origin ∷ owner ∷ [])) ≡ withoutStarts (take 3856 t)
   pub same-texts : map (textAt (formOf t b)) (title ∷ origin ∷ owner ∷ []) ≡ map (textAt b) (spansOf t)
+  pub sound-again : sound k (readResult k (formOf t b) into .table) (formOf t b) ≡ true
 
 -- a form is accepted, the table that it is read into is sound with it, and written again into any buffer with room it is the form, byte for byte
 pub record WrittenAgain (k : ℕ) (form : Bytes) (into : List ℤ) : Type 0 where

@@ -75,6 +75,9 @@ fn late_word(row: usize) -> u64
     }
 }
 
+// An entry of a word has seven bits.
+const ENTRY: u64 = 128;
+
 // The element whose letters have the number k: the upper-case letter's place times 27, and the lower-case letter's (0 where there is none).
 pub fn entry_at(k: usize) -> u32
     requires { ⌜ k < 702 ⌝ }
@@ -83,7 +86,7 @@ pub fn entry_at(k: usize) -> u32
     let row = k / 9;
     let shift = 7 * (k as u64 % 9);
     if row < 33 {
-        return ((early_word(row) >> shift) % 128) as u32;
+        return ((early_word(row) >> shift) % ENTRY) as u32;
     }
-    ((late_word(row) >> shift) % 128) as u32
+    ((late_word(row) >> shift) % ENTRY) as u32
 }

@@ -16,8 +16,10 @@ use mir.Syntax.{w32}
 use mir.Val.{SFits, toZ, ofZ}
 use Rattle.lists.specs.Lists.{filled}
 use Rattle.lists.proofs.RegionLaws.{filled-sets}
-use Rattle.format.specs.Table.{zeros}
+use Rattle.format.specs.Labels.{Charges}
+use Rattle.format.specs.Table.{zeros, rowPlace, atomPlace}
 use Rattle.filling.specs.Filled.{signedOf, placed, copied, valueOf, valueOut, numberIn, atomOut, gathered, atomsOut}
+use Rattle.format.proofs.PlaceLaws.{charge-place, atom-place}
 use Rattle.filling.proofs.FillLaws.{zeros-filled, copied-none, copied-more, cell-drop}
 
 -- A VALUE FROM ITS CODE
@@ -54,12 +56,12 @@ module _ (t : List ℕ) where
   pub values-none : (p p′ : List ℤ) → length p ≡ 64 → p′ ≡ zeros (length p) → p′ ≡ copied 1 valueOut 64 0 t
   values-none p p′ h e = copied-none 1 1 valueOut (λ s. refl) 64 t p h p′ e
 
-  pub values-more : (i : ℕ) (p p′ : List ℤ) → i < 64 → p ≡ copied 1 valueOut 64 i t → p′ ≡ placed p i (valueOf (getD t i 0) ∷ []) → p′ ≡ copied 1 valueOut 64 (i + 1) t
-  values-more i p p′ h e f =
-      let q : i ≡ 1 * i = omega arith in
+  pub values-more : (i at : ℕ) (p p′ : List ℤ) → i < 64 → at ≡ rowPlace Charges i → p ≡ copied 1 valueOut 64 i t → p′ ≡ placed p (at - 2832) (valueOf (getD t i 0) ∷ [])
+      → p′ ≡ copied 1 valueOut 64 (i + 1) t
+  values-more i at p p′ h a e f =
       let r : 1 * i + 0 ≡ i = omega arith in
-      copied-more 1 1 valueOut (λ s. refl) 64 t i p p′ (valueOf (getD t i 0) ∷ []) (omega arith) (ap (λ n. valueOf n ∷ []) (cell-drop 0 (1 * i) 0 t ∙ ap (λ k. getD t k 0) r)) e
-      (f ∙ ap (λ k. placed p k (valueOf (getD t i 0) ∷ [])) q)
+      copied-more 1 1 valueOut (λ s. refl) 64 t i (at - 2832) p p′ (valueOf (getD t i 0) ∷ []) (omega (arith, charge-place i h)) (omega arith)
+      (ap (λ n. valueOf n ∷ []) (cell-drop 0 (1 * i) 0 t ∙ ap (λ k. getD t k 0) r)) e f
 
 -- RECORDS GATHERED one by one, k numbers each
 pub gathered-nil : (out : ℕ → List ℤ) → gathered out 0 ≡ []
@@ -75,10 +77,10 @@ module _ (k : ℕ) (out : ℕ → List ℤ) (wide : (i : ℕ) → length (out i)
   gathered-length zero = ap length (gathered-nil out) ∙ sym (mul-zero k)
   gathered-length (suc n) = ap length (gathered-suc out n) ∙ omega (arith, length-append (gathered out n) (out n), gathered-length n, wide n, mul-suc k n)
 
-  pub gathered-more : (size n : ℕ) (p p′ : List ℤ) → k * n + k ≤ size → p ≡ filled (pos 0) size (gathered out n) → p′ ≡ placed p (k * n) (out n) → p′ ≡ filled (pos 0) size (gathered out (n + 1))
+  pub gathered-more : (size n at : ℕ) (p p′ : List ℤ) → at ≡ k * n → k * n + k ≤ size → p ≡ filled (pos 0) size (gathered out n) → p′ ≡ placed p at (out n) → p′ ≡ filled (pos 0) size (gathered out (n + 1))
   unfolding placed
-  gathered-more size n p p′ h e f =
-      f ∙ ap (λ x. sets x (k * n) (out n)) e ∙ ap (λ i. sets (filled (pos 0) size (gathered out n)) i (out n)) (sym (gathered-length n))
+  gathered-more size n at p p′ q h e f =
+      f ∙ ap (λ x. sets x at (out n)) e ∙ ap (λ i. sets (filled (pos 0) size (gathered out n)) i (out n)) (q ∙ sym (gathered-length n))
       ∙ filled-sets (pos 0) size (gathered out n) (out n) (omega (arith, gathered-length n, wide n))
       ∙ ap (filled (pos 0) size) (sym (gathered-suc out n)) ∙ ap (λ i. filled (pos 0) size (gathered out i)) (sym (add-one n))
 
@@ -88,14 +90,14 @@ module _ (ks cs co rs ro : List ℕ) where
   unfolding atomsOut
   atoms-none p p′ h e = e ∙ ap zeros h ∙ zeros-filled 1280 ∙ ap (filled (pos 0) 1280) (sym (gathered-nil (atomOut ks cs co rs ro)))
 
-  pub atoms-more : (i : ℕ) (p p′ : List ℤ) (c r : ℕ) → i < 256 → c ≡ numberIn cs co i → r ≡ numberIn rs ro i → p ≡ atomsOut ks cs co rs ro i
-      → p′ ≡ placed p (5 * i) (signedOf (getD ks (3 * i) 0) ∷ signedOf (getD ks (3 * i + 1) 0) ∷ signedOf (getD ks (3 * i + 2) 0) ∷ signedOf c ∷ signedOf r ∷ [])
+  pub atoms-more : (i at : ℕ) (p p′ : List ℤ) (c r : ℕ) → i < 256 → at ≡ atomPlace i → c ≡ numberIn cs co i → r ≡ numberIn rs ro i → p ≡ atomsOut ks cs co rs ro i
+      → p′ ≡ placed p (at - 16) (signedOf (getD ks (3 * i) 0) ∷ signedOf (getD ks (3 * i + 1) 0) ∷ signedOf (getD ks (3 * i + 2) 0) ∷ signedOf c ∷ signedOf r ∷ [])
       → p′ ≡ atomsOut ks cs co rs ro (i + 1)
   unfolding atomsOut
-  atoms-more i p p′ c r h u v e f =
-      gathered-more 5 (atomOut ks cs co rs ro) (λ i. refl) 1280 i p p′ (omega arith) e
-      (f ∙ ap (λ n. placed p (5 * i) (signedOf (getD ks (3 * i) 0) ∷ signedOf (getD ks (3 * i + 1) 0) ∷ signedOf (getD ks (3 * i + 2) 0) ∷ signedOf n ∷ signedOf r ∷ [])) u
-      ∙ ap (λ n. placed p (5 * i) (signedOf (getD ks (3 * i) 0) ∷ signedOf (getD ks (3 * i + 1) 0) ∷ signedOf (getD ks (3 * i + 2) 0) ∷ signedOf (numberIn cs co i) ∷ signedOf n ∷ [])) v)
+  atoms-more i at p p′ c r h a u v e f =
+      gathered-more 5 (atomOut ks cs co rs ro) (λ i. refl) 1280 i (at - 16) p p′ (omega (arith, atom-place i h)) (omega arith) e
+      (f ∙ ap (λ n. placed p (at - 16) (signedOf (getD ks (3 * i) 0) ∷ signedOf (getD ks (3 * i + 1) 0) ∷ signedOf (getD ks (3 * i + 2) 0) ∷ signedOf n ∷ signedOf r ∷ [])) u
+      ∙ ap (λ n. placed p (at - 16) (signedOf (getD ks (3 * i) 0) ∷ signedOf (getD ks (3 * i + 1) 0) ∷ signedOf (getD ks (3 * i + 2) 0) ∷ signedOf (numberIn cs co i) ∷ signedOf n ∷ [])) v)
 
   pub atoms-all : (n m : ℕ) (p : List ℤ) → n ≤ m → m ≤ n → p ≡ atomsOut ks cs co rs ro n → p ≡ atomsOut ks cs co rs ro m
   atoms-all n m p h k e = let q : n ≡ m = omega arith in e ∙ ap (atomsOut ks cs co rs ro) q

@@ -1,6 +1,6 @@
 -- How a region of the table is filled from the front: zeros, then record after record, each from the scratch's numbers of its row. Document 01, "The structure
 -- table" ("unused ones are 0"). Assumes nothing.
-use Prim.Native.Nat.{ℕ, zero, suc, _+_, _*_, _/_, _%_, _≤_, _<_}
+use Prim.Native.Nat.{ℕ, zero, suc, _+_, _-_, _*_, _/_, _%_, _≤_, _<_}
 use mathlib.Core.Path.{_≡_, refl, sym, ap, _∙_}
 use mathlib.Core.List.{List, [], _∷_}
 use native.Mathlib.Nat.{add-zero, zero-add, suc-add, mul-suc, mul-zero}
@@ -16,8 +16,10 @@ use borrow.Author.Tests.{lt-ltb, le-ltb}
 use Rattle.lists.specs.Lists.{concat, filled, rowsFrom}
 use Rattle.lists.proofs.PartLaws.{concat-nil, concat-snoc, filled-nil, filled-length}
 use Rattle.lists.proofs.RegionLaws.{rows-zero, rows-snoc, filled-sets}
-use Rattle.format.specs.Table.{zeros}
+use Rattle.format.specs.Labels.{Bonds, Centres, Pairs}
+use Rattle.format.specs.Table.{zeros, rowPlace}
 use Rattle.filling.specs.Filled.{signedOf, placed, bondOut, centreOut, pairOut, copied, FilledWhere}
+use Rattle.format.proofs.PlaceLaws.{bond-place, centre-place, pair-place}
 
 -- A NUMBER OF THE TABLE
 pub signed-small : (n : ℕ) → n < 2147483648 → signedOf n ≡ pos n
@@ -76,13 +78,14 @@ module _ (w k : ℕ) (out : List ℕ → List ℤ) (wide : (s : List ℕ) → le
   unfolding copied
   copied-none p h p′ e = e ∙ ap zeros h ∙ zeros-filled size ∙ ap (filled (pos 0) size) (sym (ap concat (rows-zero w out t) ∙ concat-nil))
 
-  pub copied-more : (n : ℕ) (p p′ : List ℤ) (vs : List ℤ) → k * n + k ≤ size → out (drop (w * n) t) ≡ vs → p ≡ copied w out size n t → p′ ≡ placed p (k * n) vs → p′ ≡ copied w out size (n + 1) t
+  pub copied-more : (n at : ℕ) (p p′ : List ℤ) (vs : List ℤ) → at ≡ k * n → k * n + k ≤ size → out (drop (w * n) t) ≡ vs → p ≡ copied w out size n t → p′ ≡ placed p at vs
+      → p′ ≡ copied w out size (n + 1) t
   unfolding copied placed
-  copied-more n p p′ vs h v e f =
+  copied-more n at p p′ vs q h v e f =
       let l : List ℤ = concat (rowsFrom w out n t) in
       let m : List ℤ = out (drop (w * n) t) in
-      f ∙ ap (λ x. sets x (k * n) vs) e ∙ ap (λ x. sets (filled (pos 0) size l) (k * n) x) (sym v)
-      ∙ ap (λ i. sets (filled (pos 0) size l) i m) (sym (out-length n))
+      f ∙ ap (λ x. sets x at vs) e ∙ ap (λ x. sets (filled (pos 0) size l) at x) (sym v)
+      ∙ ap (λ i. sets (filled (pos 0) size l) i m) (q ∙ sym (out-length n))
       ∙ filled-sets (pos 0) size l m (omega (arith, out-length n, wide (drop (w * n) t)))
       ∙ ap (filled (pos 0) size) (sym (ap concat (rows-snoc w out n t) ∙ concat-snoc (rowsFrom w out n t) m))
 
@@ -110,21 +113,21 @@ module _ (t : List ℕ) where
   pub pairs-none : (p p′ : List ℤ) → length p ≡ 512 → p′ ≡ zeros (length p) → p′ ≡ copied 2 pairOut 512 0 t
   pairs-none p p′ h e = copied-none 2 4 pairOut (λ s. refl) 512 t p h p′ e
 
-  module _ (i : ℕ) (p p′ : List ℤ) where
-    pub bonds-more : i < 512 → p ≡ copied 2 bondOut 1536 i t
-        → p′ ≡ placed p (3 * i) (signedOf (getD t (2 * i) 0 / 1024) ∷ signedOf (getD t (2 * i) 0 % 1024) ∷ signedOf (getD t (2 * i + 1) 0 / 256) ∷ [])
+  module _ (i at : ℕ) (p p′ : List ℤ) where
+    pub bonds-more : i < 512 → at ≡ rowPlace Bonds i → p ≡ copied 2 bondOut 1536 i t
+        → p′ ≡ placed p (at - 1296) (signedOf (getD t (2 * i) 0 / 1024) ∷ signedOf (getD t (2 * i) 0 % 1024) ∷ signedOf (getD t (2 * i + 1) 0 / 256) ∷ [])
         → p′ ≡ copied 2 bondOut 1536 (i + 1) t
-    bonds-more h e f = copied-more 2 3 bondOut (λ s. refl) 1536 t i p p′ _ (omega arith) (rw (row-first i t, cell-drop 0 (2 * i) 1 t)) e f
+    bonds-more h a e f = copied-more 2 3 bondOut (λ s. refl) 1536 t i (at - 1296) p p′ _ (omega (arith, bond-place i h)) (omega arith) (rw (row-first i t, cell-drop 0 (2 * i) 1 t)) e f
 
-    pub centres-more : i < 128 → p ≡ copied 2 centreOut 384 i t
-        → p′ ≡ placed p (3 * i) (signedOf (getD t (2 * i) 0 / 1024) ∷ signedOf (getD t (2 * i + 1) 0 / 256) ∷ signedOf (getD t (2 * i + 1) 0 % 256) ∷ [])
+    pub centres-more : i < 128 → at ≡ rowPlace Centres i → p ≡ copied 2 centreOut 384 i t
+        → p′ ≡ placed p (at - 2960) (signedOf (getD t (2 * i) 0 / 1024) ∷ signedOf (getD t (2 * i + 1) 0 / 256) ∷ signedOf (getD t (2 * i + 1) 0 % 256) ∷ [])
         → p′ ≡ copied 2 centreOut 384 (i + 1) t
-    centres-more h e f = copied-more 2 3 centreOut (λ s. refl) 384 t i p p′ _ (omega arith) (rw (row-first i t, cell-drop 0 (2 * i) 1 t)) e f
+    centres-more h a e f = copied-more 2 3 centreOut (λ s. refl) 384 t i (at - 2960) p p′ _ (omega (arith, centre-place i h)) (omega arith) (rw (row-first i t, cell-drop 0 (2 * i) 1 t)) e f
 
-    pub pairs-more : i < 128 → p ≡ copied 2 pairOut 512 i t
-        → p′ ≡ placed p (4 * i) (signedOf (getD t (2 * i) 0 / 1024) ∷ signedOf (getD t (2 * i) 0 % 1024) ∷ signedOf (getD t (2 * i + 1) 0 / 256) ∷ signedOf (getD t (2 * i + 1) 0 % 256) ∷ [])
+    pub pairs-more : i < 128 → at ≡ rowPlace Pairs i → p ≡ copied 2 pairOut 512 i t
+        → p′ ≡ placed p (at - 3344) (signedOf (getD t (2 * i) 0 / 1024) ∷ signedOf (getD t (2 * i) 0 % 1024) ∷ signedOf (getD t (2 * i + 1) 0 / 256) ∷ signedOf (getD t (2 * i + 1) 0 % 256) ∷ [])
         → p′ ≡ copied 2 pairOut 512 (i + 1) t
-    pairs-more h e f = copied-more 2 4 pairOut (λ s. refl) 512 t i p p′ _ (omega arith) (rw (row-first i t, cell-drop 0 (2 * i) 1 t)) e f
+    pairs-more h a e f = copied-more 2 4 pairOut (λ s. refl) 512 t i (at - 3344) p p′ _ (omega (arith, pair-place i h)) (omega arith) (rw (row-first i t, cell-drop 0 (2 * i) 1 t)) e f
 
 -- the loop's end: as many rows as there are
 pub copied-all : (w : ℕ) (out : List ℕ → List ℤ) (size n m : ℕ) (t : List ℕ) (p : List ℤ) → n ≤ m → m ≤ n → p ≡ copied w out size n t → p ≡ copied w out size m t

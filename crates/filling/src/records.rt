@@ -5,6 +5,13 @@ ghost use mathlib.Core.List.{[], _∷_};
 ghost use Prim.Native.Nat.{_≤_, _<_};
 ghost use lib.ListN.{length};
 ghost use Rattle.filling.specs.Filled.{placed, copied, valueOf, valueOut, numberIn, atomsOut, FilledWhere};
+use format::Table;
+use sorted::scratch::Scratch;
+
+// How many numbers of the table the atoms' records take, and the values of charge rows. Those of radical rows take as many and stand alike, one behind the other.
+const ATOMS: usize = Table::FIRST_BOND - Table::FIRST_ATOM;
+
+const VALUES: usize = Table::FIRST_RADICAL - Table::FIRST_CHARGE;
 
 // A value, from its code.
 fn put_value(part: &mut [i32], at: usize, code: u32)
@@ -22,19 +29,19 @@ fn put_value(part: &mut [i32], at: usize, code: u32)
 pub fn fill_values(part: &mut [i32], values: &[u32], count: usize)
     ensures { λ _. ⌜ FilledWhere ((length (now (part .entry)) ≡ 64) × (length (now (values .entry)) ≡ 64) × (count ≤ 64)) (now (part .entry)) (now (part .exit)) (copied 1 valueOut 64 count (now (values .entry))) ⌝ }
 {
-    if part.len() != 64 {
+    if part.len() != VALUES {
         return;
     }
-    if values.len() != 64 {
+    if values.len() != Table::CHARGES {
         return;
     }
-    if 64 < count {
+    if Table::CHARGES < count {
         return;
     }
     clearing::clear_part(part);
     let mut i = 0;
     while i < count {
-        put_value(part, i, values[i]);
+        put_value(part, Table::charge(i) - Table::FIRST_CHARGE, values[i]);
         i += 1;
     }
 }
@@ -71,7 +78,7 @@ fn put_atoms(
         let radical = number_in(radicals, radical_order, i);
         crate::put_five(
             part,
-            5 * i,
+            Table::atom(i) - Table::FIRST_ATOM,
             kinds[3 * i],
             kinds[3 * i + 1],
             kinds[3 * i + 2],
@@ -94,19 +101,19 @@ pub fn fill_atoms(
 )
     ensures { λ _. ⌜ FilledWhere ((length (now (part .entry)) ≡ 1280) × (length (now (kinds .entry)) ≡ 768) × (256 ≤ length (now (charges .entry))) × (256 ≤ length (now (radicals .entry))) × (count ≤ 256)) (now (part .entry)) (now (part .exit)) (atomsOut (now (kinds .entry)) (now (charges .entry)) (now («charge_order» .entry)) (now (radicals .entry)) (now («radical_order» .entry)) count) ⌝ }
 {
-    if part.len() != 1280 {
+    if part.len() != ATOMS {
         return;
     }
-    if kinds.len() != 768 {
+    if kinds.len() != Scratch::KINDS {
         return;
     }
-    if charges.len() < 256 {
+    if charges.len() < Table::ATOMS {
         return;
     }
-    if radicals.len() < 256 {
+    if radicals.len() < Table::ATOMS {
         return;
     }
-    if 256 < count {
+    if Table::ATOMS < count {
         return;
     }
     put_atoms(

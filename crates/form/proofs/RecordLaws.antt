@@ -3,14 +3,16 @@
 use Prim.Native.Nat.{ℕ, zero, suc, _+_, _-_, _/_, _%_, _≤_, _<_, min}
 use mathlib.Core.Path.{_≡_, refl, sym, ap, ap₂, _∙_}
 use mathlib.Core.Bool.{Bool, true, false}
-use mathlib.Core.List.{[], _∷_, _++_}
+use mathlib.Core.List.{List, [], _∷_, _++_}
 use native.Mathlib.Nat.{min-eq-left, min-eq-right}
 use native.Mathlib.Omega.{arith}
 use borrow.Author.Tests.{ltb-true, ltb-false}
 use lib.Dec.{ltb}
 use lib.ListN.{length, take, drop, length-append, length-drop, drop-of-length-le}
 use lib.Seq.{take-all, take-nil}
+use lib.IntN.{ℤ}
 use Rattle.format.specs.Bytes.{Bytes, bytes}
+use Rattle.format.specs.Table.{textPlace, cell}
 use Rattle.format.specs.Writing.{digitsIn, digits, valued, printRecord, printId}
 use Rattle.printing.specs.Printing.{Laid}
 use Rattle.printing.proofs.PrintLaws.{laid-then, laid-as}
@@ -55,10 +57,13 @@ text-cut b p n f s e q = go (ltb p (length b)) refl
         let g : f ≡ length b = e ∙ min-eq-left k in
         ap (take s) (drop-of-length-le b {i = f} (omega (arith, g))) ∙ take-nil s ∙ sym (ap (take n) (drop-of-length-le b k) ∙ take-nil n)
 
-pub span-laid : {b′ b″ : Bytes} {at r : ℕ} (l b : Bytes) (p n p₀ n₀ f s m : ℕ) → p ≡ p₀ → n ≡ n₀ → f ≡ min (length b) p → s ≡ min (length b - f) n → m ≡ s
-    → Laid b′ at (l ++ valued (take m (drop f b))) b″ r → Laid b′ at (l ++ valued (take n₀ (drop p₀ b))) b″ r
-span-laid l b p n p₀ n₀ f s m u v e q w k =
-    laid-as (ap (λ x. l ++ valued x) (ap (λ i. take i (drop f b)) w ∙ text-cut b p n f s e q ∙ ap₂ (λ x y. take x (drop y b)) v u)) k
+pub span-laid : {b′ b″ : Bytes} {at r : ℕ} (l b : Bytes) (t : List ℤ) (i place p n f s m : ℕ) → place ≡ textPlace i → p ≡ cell t place → n ≡ cell t (place + 1) → f ≡ min (length b) p
+    → s ≡ min (length b - f) n → m ≡ s → Laid b′ at (l ++ valued (take m (drop f b))) b″ r → Laid b′ at (l ++ valued (take (cell t (textPlace i + 1)) (drop (cell t (textPlace i)) b))) b″ r
+span-laid l b t i place p n f s m there u v e q w k =
+    laid-as
+    (ap (λ x. l ++ valued x)
+    (ap (λ i. take i (drop f b)) w ∙ text-cut b p n f s e q ∙ ap₂ (λ x y. take x (drop y b)) v u ∙ ap (λ j. take (cell t (j + 1)) (drop (cell t j) b)) there))
+    k
 
 -- THE BLOCK'S NUMBER
 pub digits-some : (n : ℕ) → length (digits n) ≡ 0 → ⊥

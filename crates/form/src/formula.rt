@@ -9,14 +9,16 @@ use printing::put;
 use printing::put_number;
 use printing::put_text;
 use spelling::put_symbol;
+use tally::ENTRIES;
+use tally::elements::MASSES;
 use tally::elements::element_of;
 
 // An entry by its key and count: "counts of 1 left out".
 fn put_entry(buffer: &mut [u8], at: usize, key: u32, count: u32) -> usize
     ensures { λ r. ⌜ Laid (now (buffer .entry)) at (printEntry (entryOf key count)) (now (buffer .exit)) r ⌝ }
 {
-    let element = element_of(key / 512);
-    let symbol = put_symbol(buffer, at, element, key % 512);
+    let element = element_of(key / MASSES);
+    let symbol = put_symbol(buffer, at, element, key % MASSES);
     if count == 1 {
         return symbol;
     }
@@ -35,8 +37,8 @@ fn put_next(buffer: &mut [u8], at: usize, key: u32, count: u32) -> usize
 fn put_entries(
     buffer: &mut [u8],
     at: usize,
-    keys: &[u32; 257],
-    counts: &[u32; 257],
+    keys: &[u32; ENTRIES],
+    counts: &[u32; ENTRIES],
     entries: usize,
 ) -> usize
     requires { ⌜ entries ≤ 257 ⌝ }
@@ -55,8 +57,8 @@ fn put_entries(
 pub fn put_formula(
     buffer: &mut [u8],
     at: usize,
-    keys: &[u32; 257],
-    counts: &[u32; 257],
+    keys: &[u32; ENTRIES],
+    counts: &[u32; ENTRIES],
     entries: usize,
 ) -> usize
     requires { ⌜ entries ≤ 257 ⌝ }

@@ -12,41 +12,35 @@ use crate::records::put_span;
 use cells::cell;
 use format::Table;
 use printing::put_text;
+use tally::ENTRIES;
 
 mod formula; // formula.rt: the record of the formula
 mod listing; // listing.rt: the atoms and the rows of every list
 mod records; // records.rt: texts and the block's number
+
+// The texts, as the table counts them: "title, origin, owner".
+const TITLE: usize = 0;
+
+const ORIGIN: usize = 1;
+
+const OWNER: usize = 2;
 
 // Every record, from the buffer's front on.
 fn put_records(
     buffer: &mut [u8],
     table: &[i32],
     bytes: &[u8],
-    keys: &[u32; 257],
-    counts: &[u32; 257],
+    keys: &[u32; ENTRIES],
+    counts: &[u32; ENTRIES],
     entries: usize,
 ) -> usize
     requires { ⌜ (3856 ≤ length (now table)) × (entries ≤ 257) ⌝ }
     ensures { λ r. ⌜ FormLaid (now (table .entry)) (now (bytes .entry)) entries (now (keys .entry)) (now (counts .entry)) (now (buffer .entry)) (now (buffer .exit)) r ⌝ }
 {
-    let title = put_span(buffer, 0, b"##TITLE=", table, Table::FIRST_TEXT, bytes);
+    let title = put_span(buffer, 0, b"##TITLE=", table, TITLE, bytes);
     let version = put_text(buffer, title, b"##JCAMP-CS= 3.7\n");
-    let origin = put_span(
-        buffer,
-        version,
-        b"##ORIGIN=",
-        table,
-        Table::FIRST_TEXT + 2,
-        bytes,
-    );
-    let owner = put_span(
-        buffer,
-        origin,
-        b"##OWNER=",
-        table,
-        Table::FIRST_TEXT + 4,
-        bytes,
-    );
+    let origin = put_span(buffer, version, b"##ORIGIN=", table, ORIGIN, bytes);
+    let owner = put_span(buffer, origin, b"##OWNER=", table, OWNER, bytes);
     let id = put_id(buffer, owner, cell(table, Table::BLOCK_ID));
     let formula = put_formula(buffer, id, keys, counts, entries);
     let label = put_text(buffer, formula, b"##ATOMLIST=\n");
@@ -60,8 +54,8 @@ pub fn put_form(
     buffer: &mut [u8],
     table: &[i32],
     bytes: &[u8],
-    keys: &[u32; 257],
-    counts: &[u32; 257],
+    keys: &[u32; ENTRIES],
+    counts: &[u32; ENTRIES],
     entries: usize,
 ) -> usize
     ensures { λ r. ⌜ ((3856 ≤ length (now (table .entry))) × (entries ≤ 257) → FormLaid (now (table .entry)) (now (bytes .entry)) entries (now (keys .entry)) (now (counts .entry)) (now (buffer .entry)) (now (buffer .exit)) r) × (length (now (table .entry)) < 3856 → Untouched (now (buffer .entry)) 0 (now (buffer .exit)) r) × (257 < entries → Untouched (now (buffer .entry)) 0 (now (buffer .exit)) r) ⌝ }

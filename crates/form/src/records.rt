@@ -1,12 +1,13 @@
 // Records with a value: document 01, "The one written form" ("`=` then a space and the value; no space where there is none").
 ghost use mathlib.Core.Path.{_≡_};
 ghost use mathlib.Core.List.{_++_};
-ghost use Prim.Native.Nat.{_+_, _<_, min};
+ghost use Prim.Native.Nat.{_+_, min};
 ghost use lib.ListN.{take, drop};
-ghost use Rattle.format.specs.Table.{cell as cellOf};
+ghost use Rattle.format.specs.Table.{textPlace, cell as cellOf};
 ghost use Rattle.format.specs.Writing.{valued, printId};
 ghost use Rattle.printing.specs.Printing.{Laid};
 use cells::cell;
+use format::Table;
 use printing::put;
 use printing::put_behind;
 use printing::put_text;
@@ -35,18 +36,18 @@ fn within(number: u32, most: usize) -> usize
     most
 }
 
-// A label and the text whose start and length stand at `place`.
+// A label and the text that has this index: title 0, origin 1, owner 2.
 pub fn put_span(
     buffer: &mut [u8],
     at: usize,
     label: &[u8],
     table: &[i32],
-    place: usize,
+    index: usize,
     bytes: &[u8],
 ) -> usize
-    requires { ⌜ place < 16 ⌝ }
-    ensures { λ r. ⌜ Laid (now (buffer .entry)) at (now (label .entry) ++ valued (take (cellOf (now (table .entry)) (place + 1)) (drop (cellOf (now (table .entry)) place) (now (bytes .entry))))) (now (buffer .exit)) r ⌝ }
+    ensures { λ r. ⌜ Laid (now (buffer .entry)) at (now (label .entry) ++ valued (take (cellOf (now (table .entry)) (textPlace index + 1)) (drop (cellOf (now (table .entry)) (textPlace index)) (now (bytes .entry))))) (now (buffer .exit)) r ⌝ }
 {
+    let place = Table::text(index);
     let from = within(cell(table, place), bytes.len());
     let size = within(cell(table, place + 1), bytes.len() - from);
     let to = from + size;

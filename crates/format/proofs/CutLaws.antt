@@ -6,7 +6,7 @@ use mathlib.Core.Bool.{Bool, true, false, not}
 use mathlib.Core.List.{List, [], _∷_, _++_, append-assoc, append-nil}
 use native.Mathlib.Omega.{arith}
 use lib.ListN.{length, getD, take, drop, length-append, length-drop, take-append-drop, drop-of-length-le}
-use lib.Seq.{length-take-le, drop-drop, drop-cons}
+use lib.Seq.{length-take-le, take-nil, take-at, drop-at, take-add, drop-drop, drop-cons}
 use lib.Dec.{eqb}
 use borrow.Author.Tests.{eq-eqb, ne-eqb}
 use native.Mathlib.Nat.{add-zero}
@@ -213,6 +213,40 @@ cut-rest (l ∷ ls) ms (b ∷ s) e =
     let k : length (l ++ concat ls) ≡ n + length (concat ls) =
     length-append l (concat ls) ∙ ap (λ (m : ℕ). m + length (concat ls)) (ap length g ∙ length-take-le n (b ∷ s) (lineLen-le (b ∷ s))) in
     ap (λ (m : ℕ). cut (drop m (b ∷ s))) k ∙ ap cut (sym (drop-drop (length (concat ls)) n (b ∷ s))) ∙ cut-rest ls ms (drop n (b ∷ s)) r
+
+-- and the lines up to there are ls
+line-front : (s : Bytes) (m : ℕ) → lineLen (take (lineLen s + m) s) ≡ lineLen s
+unfolding lineLen
+line-front [] m = ap lineLen (take-nil (0 + m))
+line-front (b ∷ s) m = go (eqb b 10) refl (line-front s m)
+  where
+    go : (t : Bool) → eqb b 10 ≡ t → lineLen (take (lineLen s + m) s) ≡ lineLen s → lineLen (take (lineLen (b ∷ s) + m) (b ∷ s)) ≡ lineLen (b ∷ s)
+    go true e ih =
+        let q : lineLen (b ∷ s) + m ≡ suc m = omega (arith, len-hit b s e) in
+        ap (λ (n : ℕ). lineLen (take n (b ∷ s))) q ∙ len-hit b (take m s) e ∙ sym (len-hit b s e)
+    go false e ih =
+        let q : lineLen (b ∷ s) + m ≡ suc (lineLen s + m) = omega (arith, len-miss b s e) in
+        ap (λ (n : ℕ). lineLen (take n (b ∷ s))) q ∙ len-miss b (take (lineLen s + m) s) e ∙ ap suc ih ∙ sym (len-miss b s e)
+
+pub cut-front : (ls ms : List Bytes) (s : Bytes) → cut s ≡ ls ++ ms → cut (take (length (concat ls)) s) ≡ ls
+unfolding concat
+cut-front [] ms s e = cut-nil
+cut-front (l ∷ ls) ms [] e = let z : _≡_ {A = ℕ} 0 1 = cc (cut-nil) in absurd (omega arith)
+cut-front (l ∷ ls) ms (b ∷ s) e =
+    let n : ℕ = lineLen (b ∷ s) in
+    let m : ℕ = length (concat ls) in
+    let t : Bytes = take (n + m) (b ∷ s) in
+    let f : cut (b ∷ s) ≡ take n (b ∷ s) ∷ cut (drop n (b ∷ s)) = cut-first (b ∷ s) (omega arith) in
+    let g : take n (b ∷ s) ≡ l = cc in
+    let r : cut (drop n (b ∷ s)) ≡ ls ++ ms = cc in
+    let w : length (take n (b ∷ s)) ≡ n = length-take-le n (b ∷ s) (lineLen-le (b ∷ s)) in
+    let k : length (l ++ concat ls) ≡ n + m = length-append l (concat ls) ∙ ap (λ (i : ℕ). i + m) (ap length (sym g) ∙ w) in
+    let q : lineLen t ≡ n = line-front (b ∷ s) m in
+    let p : 0 < length t = omega (arith, q, lineLen-le t, lineLen-pos (b ∷ s) (omega arith)) in
+    let d : t ≡ take n (b ∷ s) ++ take m (drop n (b ∷ s)) = take-add n m (b ∷ s) in
+    ap (λ (i : ℕ). cut (take i (b ∷ s))) k ∙ cut-first t p ∙ ap (λ (i : ℕ). take i t ∷ cut (drop i t)) q
+    ∙ ap (λ (x : Bytes). take n x ∷ cut (drop n x)) d ∙ rw (take-at (take n (b ∷ s)) (take m (drop n (b ∷ s))) n w, drop-at (take n (b ∷ s)) (take m (drop n (b ∷ s))) n w, cut-front ls ms (drop n (b ∷ s)) r)
+    (ap (λ (x : Bytes). x ∷ ls) g)
 
 -- no line is empty
 abbrev pub Solid : List Bytes → Type 0

@@ -38,10 +38,10 @@ sep10 : Sep 10
 unfolding gap blank within
 sep10 = record { isGap = refl; notUpper = refl; notLower = refl; notDigit = refl; notSlash = refl }
 
-one-digit : (c : Bool) (m a d : ℕ) → digit d ≡ true → fstep (atOne c m a) d ≡ still (inCount (symOf c m a 0) 1 (d - 48))
+pub one-digit : (c : Bool) (m a d : ℕ) → digit d ≡ true → fstep (atOne c m a) d ≡ still (inCount (symOf c m a 0) 1 (d - 48))
 one-digit c m a d e = one-other c m a d (digit-lower d e) ∙ count-or-digit (symOf c m a 0) d _ e
 
-two-digit : (x : Sym) (d : ℕ) → digit d ≡ true → fstep (atTwo x) d ≡ still (inCount x 1 (d - 48))
+pub two-digit : (x : Sym) (d : ℕ) → digit d ≡ true → fstep (atTwo x) d ≡ still (inCount x 1 (d - 48))
 two-digit x d e = two-is x d ∙ count-or-digit x d _ e
 
 one-sep : (c : Bool) (m a g : ℕ) → Sep g → fstep (atOne c m a) g ≡ tells (counted (symOf c m a 0) 1) (between true)
@@ -78,7 +78,7 @@ number-run q x f (d ∷ w) h m l g t s =
     run-goes q _ d _ (f d (all-parts digit d w h .0)) ∙ count-run x 1 (d - 48) w g t (all-parts digit d w h .1) (omega arith) s ∙ ap (λ (v : ℕ). told (counted x v) t) (sym (value-first d w))
 
 -- AN ENTRY: mass and first letter
-mass-start : (w : Bytes) (a : ℕ) (t : Bytes) → all digit w ≡ true → 0 < length w → length w ≤ 3 → upper a ≡ true → frun atCaret (w ++ (a ∷ t)) ≡ frun (atOne true (value 0 w) a) t
+pub mass-start : (w : Bytes) (a : ℕ) (t : Bytes) → all digit w ≡ true → 0 < length w → length w ≤ 3 → upper a ≡ true → frun atCaret (w ++ (a ∷ t)) ≡ frun (atOne true (value 0 w) a) t
 mass-start [] a t h m l u = absurd (omega arith)
 mass-start (d ∷ w) a t h m l u =
     run-goes atCaret _ d _ (caret-digit d (all-parts digit d w h .0)) ∙ mass-run 1 (d - 48) w a t (all-parts digit d w h .1) (omega arith) u ∙ ap (λ (v : ℕ). frun (atOne true v a) t) (sym (value-first d w))

@@ -2,6 +2,7 @@
 pub mod Computing
 pub mod Tables
 pub mod Places
+pub mod PlaceLaws
 pub mod CutLaws
 pub mod ReadingLaws
 pub mod ByteLaws
@@ -15,6 +16,8 @@ pub mod SymbolLaws
 pub mod OrderLaws
 pub mod FormulaLaws
 pub mod FormulaBack
+pub mod GrammarRuns
+pub mod GrammarLaws
 pub mod TotalLaws
 pub mod RowLines
 pub mod RowLaws

@@ -5,15 +5,15 @@ use mathlib.Core.Path.{_≡_, refl, sym, ap, _∙_, subst}
 use mathlib.Core.Bool.{Bool, true, false}
 use mathlib.Core.List.{List, [], _∷_}
 use native.Mathlib.Omega.{arith}
-use lib.IntN.{ℤ}
-use lib.ListN.{length, drop}
+use lib.IntN.{ℤ, pos}
+use lib.ListN.{length, drop, length-replicate}
 use lib.Dec.{ltb}
 use borrow.Author.Tests.{ltb-true, ltb-false, lt-ltb, le-ltb}
 use Rattle.lists.specs.Lists.{concat, isNil}
 use Rattle.lists.proofs.PartLaws.{concat-length}
 use Rattle.format.specs.Bytes.{Bytes, cut}
 use Rattle.format.specs.Reading.{State, Rules, Turn, Go, Stop, Outcome, Accepted, Refused, Reading, Read, Unread, over, past, ending, lineStep, readLines, start, readingOf, strict, readBlock}
-use Rattle.format.specs.Table.{ReadResult, readAnswer, tableOf, readResult}
+use Rattle.format.specs.Table.{zeros, ReadResult, readAnswer, tableOf, readResult}
 use Rattle.format.proofs.CutLaws.{concat-cut}
 use Rattle.format.proofs.ReadingLaws.{read-go, read-stop, read-end, step-at}
 
@@ -53,6 +53,11 @@ module _ (u : Rules) where
 told-placed : (t : List ℤ) (o : Outcome) → Placed 32768 o → tableOf t (readingOf o) .place ≤ 32768
 told-placed t (Accepted st) h = omega arith
 told-placed t (Refused n p) h = h
+
+-- a long enough table
+pub zeros-long : 3856 ≤ length (zeros 3856)
+unfolding zeros
+zeros-long = omega (arith, length-replicate 3856 (pos 0))
 
 module _ (k : ℕ) (b : Bytes) (t : List ℤ) where
   -- "1: table shorter than 3,856; untouched"; and a table that is long enough

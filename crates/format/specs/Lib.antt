@@ -3,6 +3,7 @@ pub mod Bytes
 pub mod Labels
 pub mod Rows
 pub mod Formula
+pub mod Grammar
 pub mod Structure
 pub mod Reading
 pub mod Table

@@ -7,7 +7,7 @@ use lib.ListN.{length, take, drop}
 use lib.Dec.{ltb}
 use Rattle.format.specs.Bytes.{Bytes, cut, trim, isLabel}
 use Rattle.format.specs.Labels.{Line, Plain, Unparted, Labelled, lineOf, titleLine, endLine}
-use Rattle.format.specs.Table.{ReadResult, readResult, zeros}
+use Rattle.format.specs.Table.{spansOf, textAt, ReadResult, readResult, zeros}
 
 pub data Kind : Type 0 where
   block stray : Kind
@@ -79,10 +79,29 @@ walkedAs false false w = w
 unfoldable pub walkAt : (file : Bytes) → (place : ℕ) → Walked
 walkAt file place = walkedAs (ltb 16777216 (length file)) (ltb (length file) place) (firstOf (map (move place) (pieces (drop place file))))
 
--- "The answers for a file are these from place 0 on, each block with its reading into a long enough table."
+-- What an answer of the walk is, its number, its start and its end: "Finished and these refusals give start and end 0". A piece and the end have number 0.
+pub data What : Type 0 where
+  aPiece : Kind → What
+  theEnd aRefusal : What
+
+pub record WalkResult : Type 0 where
+  pub what : What
+  pub number : ℕ
+  pub start : ℕ
+  pub end : ℕ
+
+abbrev pub walkAnswer : What → (number start end : ℕ) → WalkResult
+walkAnswer w n a b = record { what = w; number = n; start = a; end = b }
+
+abbrev pub walkResult : Walked → WalkResult
+walkResult (Found p) = walkAnswer (aPiece (p .kind)) 0 (p .from) (p .to)
+walkResult Finished = walkAnswer theEnd 0 0 0
+walkResult (NotWalked n) = walkAnswer aRefusal n 0 0
+
+-- "The answers for a file are these from place 0 on, each block with its reading into a long enough table.", and with the bytes of its texts
 pub data Told : Type 0 where
   StrayRun : Told
-  BlockRead : ReadResult → Told
+  BlockRead : ReadResult → (texts : List Bytes) → Told
 
 pub record Answer : Type 0 where
   pub of : Piece
@@ -91,8 +110,12 @@ pub record Answer : Type 0 where
 abbrev pub bytesOf : Piece → Bytes → Bytes
 bytesOf p file = take (p .to - p .from) (drop (p .from) file)
 
+-- the texts that the table names in the block; a refused block's table is zeroed, so that its three are empty
+abbrev pub withTexts : Bytes → ReadResult → Told
+withTexts b r = BlockRead r (map (textAt b) (spansOf (r .table)))
+
 abbrev pub toldOf : (k : ℕ) → Kind → Bytes → Told
-toldOf k block b = BlockRead (readResult k b (zeros 3856))
+toldOf k block b = withTexts b (readResult k b (zeros 3856))
 toldOf k stray b = StrayRun
 
 unfoldable pub answered : (k : ℕ) → (file : Bytes) → List Piece → List Answer

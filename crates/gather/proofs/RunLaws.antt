@@ -19,7 +19,7 @@ use Rattle.format.proofs.ReadingLaws.{Keeps, read-go, atoms-keeps, rows-keeps}
 use Rattle.labels.specs.ShownLines.{byCode}
 use Rattle.symbols.specs.ShownSymbols.{symOfMark}
 use Rattle.symbols.specs.declared.Mark.{Mark}
-use Rattle.rows.specs.Answers.{ShowsAtomRow, ShowsBondRow}
+use Rattle.rows.specs.Answers.{answered as asAnswer, ShowsAtomRow, ShowsBondRow}
 use Rattle.elements.specs.Shown.{isotopeShown}
 use Rattle.rows.specs.declared.atom.AtomRow.the-variants as A
 use Rattle.rows.specs.declared.bond.BondRow.the-variants as B
@@ -35,8 +35,9 @@ use Rattle.gather.specs.declared.progress.Progress.{Progress}
 use Rattle.gather.specs.declared.progress.Turn.the-variants.{Go}
 use Rattle.sorted.specs.declared.after.RowAfter.{RowAfter}
 use Rattle.sorted.specs.declared.after.RowAfter.the-variants.{Kept}
+use Rattle.sorted.specs.declared.after.LineAfter.the-variants as L
 use Rattle.gather.specs.declared.runs.Run.{Run}
-use Rattle.atoms.proofs.AtomLineLaws.{AtomShows, shows-joined}
+use Rattle.atoms.proofs.AtomLineLaws.{AtomShows, shows-joined, shows-values}
 use Rattle.sorted.proofs.KeyedLines.{bond-shows}
 use Rattle.gather.proofs.TurnLaws.{atoms-turn, rows-turn}
 
@@ -88,10 +89,12 @@ module _ (k : ℕ) (block : Bytes) (at atoms place count : ℕ) (t₀ t : List �
   light = or-left (not (mark .caret)) _ (ap not (row .plain))
 
   answered : ShowsAtomRow (atomShape (fields (lineAt block place next))) (A.Values number mark hydrogens)
-  answered = record { is = sym (row .shape); small = (omega (arith, row .small), omega (arith, row .bare), omega (arith, row .few)) }
+  answered = record { is = ap asAnswer (sym (row .shape)); small = (omega (arith, row .small), omega (arith, row .bare), omega (arith, row .few)) }
 
-  joins : AtomShows k count (lineAt block place next) (take 768 (drop 0 t)) region (Kept (count + 1))
-  joins = shows-joined k count (lineAt block place next) (take 768 (drop 0 t)) (row .line .inked) region (A.Values number mark hydrogens) answered number mark hydrogens refl light (omega (arith, row .few)) follows i j found room put
+  joins : AtomShows k count (lineAt block place next) place (take 768 (drop 0 t)) region (L.Kept (count + 1))
+  joins =
+      shows-values k count (lineAt block place next) place (take 768 (drop 0 t)) (row .line .inked) region (A.Values number mark hydrogens) answered number mark hydrogens refl (Kept (count + 1)) (L.Kept (count + 1)) refl
+      (shows-joined k count number mark hydrogens (take 768 (drop 0 t)) region light (omega (arith, row .few)) follows i j found room put)
 
   module _ (u : Rules) (p : Progress) (st : State) (e : u .elements ≡ k) (b : 1 ≤ k) (c : Counted p) (running : st .running ≡ Atoms) (seen : isNil (st .seen) ≡ false) (h : Shows k block at p t₀ st)
       (r : Reached u k block at place (withCount 6 count p) t st) where
@@ -107,7 +110,7 @@ module _ (k : ℕ) (block : Bytes) (at atoms place count : ℕ) (t₀ t : List �
     atom-on =
         one-more u k block at place next (withCount 6 count p) (withCount 6 (count + 1) p) t (putMid 0 768 t region) st r (row .line)
         (atomLine k (r .state) (fields (lineAt block place next))) atom-line-is (atoms-keeps (r .state) k (fields (lineAt block place next)))
-        (atoms-turn (withCount 6 count p) t region (fields (lineAt block place next)) (Kept (count + 1)) k joins b block place (r .state) (r .shows) counted)
+        (atoms-turn place (withCount 6 count p) t region (fields (lineAt block place next)) (L.Kept (count + 1)) k joins b block (r .state) (r .shows) counted)
 
   pub atoms-more : AtomsRan k block at atoms t₀ (putMid 0 768 t region) (record { place = next; count = count + 1 })
   atoms-more = record {
@@ -130,10 +133,10 @@ module _ (block : Bytes) (at atoms bonds place count : ℕ) (t₀ t : List ℕ) 
     (first second kind next : ℕ) (row : BondIs block place first second kind next) (region : List ℕ) (answer : RowAfter)
     (shown : RowShows 512 (first ∷ second ∷ []) (256 * kind) true atoms count (take 1024 (drop 1410 t)) region answer) (more : ℕ) (joined : answer ≡ Kept more) where
   told : ShowsBondRow (rowShape Bonds (fields (lineAt block place next))) (B.Values first second kind)
-  told = record { is = sym (row .shape); small = (omega (arith, row .one), omega (arith, row .other), row .small) }
+  told = record { is = ap asAnswer (sym (row .shape)); small = (omega (arith, row .one), omega (arith, row .other), row .small) }
 
-  gathers : LineShows Bonds atoms count (lineAt block place next) (take 1024 (drop 1410 t)) region (Kept more)
-  gathers = bond-shows atoms count (lineAt block place next) (take 1024 (drop 1410 t)) region (row .line .inked) (B.Values first second kind) told first second kind refl (Kept more) (rw joined at shown)
+  gathers : LineShows Bonds atoms count (lineAt block place next) place (take 1024 (drop 1410 t)) region (L.Kept more)
+  gathers = bond-shows atoms count (lineAt block place next) place (take 1024 (drop 1410 t)) region (row .line .inked) (B.Values first second kind) told first second kind refl (Kept more) (L.Kept more) refl (rw joined at shown)
 
   module _ (u : Rules) (k : ℕ) (p : Progress) (st : State) (c : Counted p) (a : p .atoms ≡ atoms) (running : st .running ≡ Rows Bonds) (seen : isNil (st .seen) ≡ false) (h : Shows k block at p t₀ st)
       (few : count ≤ 512) (r : Reached u k block at place (withCount 7 count p) t st) where
@@ -147,8 +150,8 @@ module _ (block : Bytes) (at atoms bonds place count : ℕ) (t₀ t : List ℕ) 
     bond-on =
         one-more u k block at place next (withCount 7 count p) (withCount 7 more p) t (putMid 1410 1024 t region) st r (row .line)
         (rowLine Bonds (r .state) (fields (lineAt block place next))) bond-line-is (rows-keeps (r .state) Bonds (fields (lineAt block place next)))
-        (rows-turn Bonds (withCount 7 count p) t region (fields (lineAt block place next)) (Kept more)
-        (subst (λ (n : ℕ). LineShows Bonds n count (lineAt block place next) (take 1024 (drop 1410 t)) region (Kept more)) (sym a) gathers) k block place (r .state) (r .shows) counts)
+        (rows-turn Bonds place (withCount 7 count p) t region (fields (lineAt block place next)) (L.Kept more)
+        (subst (λ (n : ℕ). LineShows Bonds n count (lineAt block place next) place (take 1024 (drop 1410 t)) region (L.Kept more)) (sym a) gathers) k block (r .state) (r .shows) counts)
 
   pub bonds-more : count ≤ 512 → more ≤ 512 → BondsRan block at atoms bonds t₀ (putMid 1410 1024 t region) (record { place = next; count = more })
   bonds-more few room = record {

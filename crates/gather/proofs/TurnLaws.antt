@@ -8,7 +8,7 @@ use mathlib.Core.List.{List, [], _∷_}
 use native.Mathlib.Omega.{arith}
 use lib.ListN.{length, take, drop, length-drop, length-append}
 use lib.Seq.{length-take-le}
-use borrow.Rule.Slice.PartMut.{putMid, same-len-mid}
+use borrow.Rule.Slice.PartMut.{putMid, put-same, same-len-mid}
 use Rattle.lists.specs.Lists.{all}
 use Rattle.lists.proofs.ListLaws.{all-append-both, all-one}
 use Rattle.format.specs.Bytes.{Bytes}
@@ -18,18 +18,17 @@ use Rattle.format.specs.Structure.{Atom, Structure, rowsOf, atomOk}
 use Rattle.format.specs.Reading.{State, withRows, withAtoms, rowLine, atomLine}
 use Rattle.sorted.specs.Steps.{After, kept, refused, rowStep, atomStep}
 use Rattle.sorted.specs.Regions.{Fits, kindsRegion}
-use Rattle.sorted.specs.Shown.{ShowsAfter}
-use Rattle.sorted.specs.Keyed.{KeptWithin}
-use Rattle.sorted.specs.declared.after.RowAfter.{RowAfter}
-use Rattle.sorted.specs.declared.after.RowAfter.the-variants as R
+use Rattle.sorted.specs.Shown.{ShowsLine, LineWithin, LineUntouched}
+use Rattle.sorted.specs.declared.after.LineAfter.{LineAfter}
+use Rattle.sorted.specs.declared.after.LineAfter.the-variants as L
 use Rattle.sorted.proofs.FitLaws.{fits-kept, fits-more}
 use Rattle.gather.specs.Progress.{laid, withCount, Counted, CountedTurn, Listed, countOf}
 use Rattle.gather.specs.Shows.{Shows, ShowsTurn}
-use Rattle.gather.specs.ListLine.{listLine, turnOf, Gathers}
+use Rattle.gather.specs.ListLine.{listLine, turnOf, Gathers, Lent}
 use Rattle.gather.specs.declared.progress.Progress.{Progress}
 use Rattle.gather.proofs.StepLaws.{withKept, withListed, row-line, atom-line}
 use Rattle.gather.proofs.LaidLaws.{sized, fromOf, sizeOf, shownAs, rowsPut, atomsPut, list-seated, atoms-seated}
-use Rattle.gather.proofs.ListLineLaws.{codeOf, list-atoms, list-rows}
+use Rattle.gather.proofs.ListLineLaws.{codeOf, list-atoms, list-rows, Own}
 use Rattle.gather.proofs.KindLaws.{AtomAdded, atom-kept}
 
 -- THE PROGRESS WITH ANOTHER COUNT
@@ -83,24 +82,36 @@ put-long from size t region h k e = same-len-mid from size t region (e ∙ sym (
 pub part-long : (from size : ℕ) (t : List ℕ) → length t ≡ 2960 → from + size ≤ 2960 → length (take size (drop from t)) ≡ size
 part-long from size t h k = length-take-le size (drop from t) (simp length-drop (omega arith))
 
--- what a list's own line says, its part of the scratch being as long as it should: the part stays so, its count is within the limit, and what it shows
-abbrev pub Told : (size limit : ℕ) → Progress → (part region : List ℕ) → RowAfter → Type 0 → Type 0
-Told size limit p part region r Shown = length part ≡ size → (length region ≡ size) × (Counted p → KeptWithin limit r × Shown)
+-- what a list's own line says of its part of the scratch: the part stays as long; where all is as it should be, the count is within the limit, and what it shows; where it
+-- is not, nothing is touched
+abbrev pub Told : (size count limit place : ℕ) → Progress → (part region : List ℕ) → LineAfter → Type 0 → Type 0
+Told size count limit place p part region r Shown =
+    (length region ≡ length part) × (length part ≡ size → Counted p → LineWithin limit r × Shown) × ((length part ≡ size → count ≤ limit → p .atoms ≤ 256 → ⊥) → LineUntouched place part region r)
 
-counted-turn : (code limit : ℕ) (p : Progress) (r : RowAfter) → ((c : ℕ) → c ≤ limit → Counted (withCount code c p)) → KeptWithin limit r → CountedTurn p (turnOf code p r)
-counted-turn code limit p (R.Kept c) keeps f = (keeps c (f c refl), refl)
-counted-turn code limit p (R.Stop n) keeps f = tt
+-- and so all that a line promises in the whole scratch
+abbrev pub Gathered : (code k place : ℕ) → List Bytes → Progress → (before after : List ℕ) → LineAfter → Type 0
+Gathered code k place fs p before after r =
+    (length after ≡ 2960) × Gathers code k place fs p before after (turnOf code p r) × ((Lent code p before → ⊥) → LineUntouched place before after r)
 
--- all that a line promises in the whole scratch, from that; `own` is the list's code
-told-gathers : (code k : ℕ) (fs : List Bytes) (p : Progress) (t region : List ℕ) (r : RowAfter) (own from size limit : ℕ) (Shown : Type 0) → from + size ≤ 2960
+counted-turn : (code limit : ℕ) (p : Progress) (r : LineAfter) → ((c : ℕ) → c ≤ limit → Counted (withCount code c p)) → LineWithin limit r → CountedTurn p (turnOf code p r)
+counted-turn code limit p (L.Kept c) keeps f = (keeps c (f c refl), refl)
+counted-turn code limit p (L.Refused n q) keeps f = tt
+
+-- a part that is as it was, put back
+put-untouched : (from size place : ℕ) (t region : List ℕ) (r : LineAfter) → LineUntouched place (take size (drop from t)) region r → LineUntouched place t (putMid from size t region) r
+put-untouched from size place t region r w = (w .0, ap (putMid from size t) (w .1) ∙ put-same from size t)
+
+-- `own` is the list's code
+told-gathers : (code k place : ℕ) (fs : List Bytes) (p : Progress) (t region : List ℕ) (r : LineAfter) (own from size count limit : ℕ) (Shown : Type 0) → from + size ≤ 2960
     → ((c : ℕ) → Counted p → c ≤ limit → Counted (withCount own c p))
-    → (Counted p → 1 ≤ k → Shown → (block : Bytes) (at : ℕ) (st : State) → Shows k block at p t st → ShowsTurn k block at (turnOf own p r) (putMid from size t region) (listLine own k st fs))
-    → (6 ≤ code → code ≤ 11 → code ≡ own) → Told size limit p (take size (drop from t)) region r Shown → length t ≡ 2960
-    → (length (putMid from size t region) ≡ 2960) × Gathers code k fs p t (putMid from size t region) (turnOf code p r)
-told-gathers code k fs p t region r own from size limit Shown room keeps shows is told long =
-    let w = told (part-long from size t long room) in (
-      put-long from size t region long room (w .0),
-      λ c low six eleven. rw (is six eleven) (counted-turn own limit p r (λ n. keeps n c) (w .1 c .0), shows c low (w .1 c .1)),
+    → (Counted p → 1 ≤ k → Shown → (block : Bytes) (st : State) → Shows k block place p t st → ShowsTurn k block place (turnOf own p r) (putMid from size t region) (listLine own k st fs))
+    → Own code own count limit p → Told size count limit place p (take size (drop from t)) region r Shown → length t ≡ 2960
+    → Gathered code k place fs p t (putMid from size t region) r
+told-gathers code k place fs p t region r own from size count limit Shown room keeps shows is told long =
+    let w = part-long from size t long room in (
+      put-long from size t region long room (told .0 ∙ w),
+      λ c low six eleven. rw (is .is six eleven) (counted-turn own limit p r (λ n. keeps n c) (told .1 w c .0), shows c low (told .1 w c .1)),
+      λ other. put-untouched from size place t region r (told .2 (λ long′ few atoms. other (record { long = long; atoms = atoms; rows = rw (is .rows, is .most) few }))),
     )
 
 -- ONE OF THE FIVE LISTS
@@ -111,12 +122,12 @@ region-within Radicals = omega arith
 region-within Centres = omega arith
 region-within Pairs = omega arith
 
-abbrev pub RowsShown : ListOf → Progress → (t region : List ℕ) → List Bytes → RowAfter → Type 0
-RowsShown l p t region fs r =
-    (rs : List Row) → length rs ≡ countOf l p → Fits l (p .atoms) rs → take (sizeOf l) (drop (fromOf l) t) ≡ shownAs l rs → ShowsAfter (shownAs l) region r (rowStep l (p .atoms) rs fs)
+abbrev pub RowsShown : ListOf → (place : ℕ) → Progress → (t region : List ℕ) → List Bytes → LineAfter → Type 0
+RowsShown l place p t region fs r =
+    (rs : List Row) → length rs ≡ countOf l p → Fits l (p .atoms) rs → take (sizeOf l) (drop (fromOf l) t) ≡ shownAs l rs → ShowsLine (shownAs l) place region r (rowStep l (p .atoms) rs fs)
 
-module _ (l : ListOf) (p : Progress) (t region : List ℕ) (fs : List Bytes) (r : RowAfter) (sim : RowsShown l p t region fs r) where
-  module _ (k : ℕ) (block : Bytes) (at : ℕ) (st : State) (h : Shows k block at p t st) (c : Counted p) where
+module _ (l : ListOf) (at : ℕ) (p : Progress) (t region : List ℕ) (fs : List Bytes) (r : LineAfter) (sim : RowsShown l at p t region fs r) where
+  module _ (k : ℕ) (block : Bytes) (st : State) (h : Shows k block at p t st) (c : Counted p) where
     rows-shown : (next : List Row) → Fits l (p .atoms) next → region ≡ shownAs l next → Shows k block at (withCount (codeOf l) (length next) p) (putMid (fromOf l) (sizeOf l) t region) (rowsPut l st next)
     rows-shown next f e = record {
       place = h .place;
@@ -141,16 +152,16 @@ module _ (l : ListOf) (p : Progress) (t region : List ℕ) (fs : List Bytes) (r 
         line-is : (a : After Row) → rowStep l (p .atoms) (rowsOf l (st .body)) fs ≡ a → rowLine l st fs ≡ withKept l st a
         line-is a e = row-line l st fs ∙ ap (λ (n : ℕ). withKept l st (rowStep l n (rowsOf l (st .body)) fs)) (h .holding .listed .atoms) ∙ ap (withKept l st) e
 
-        go : (a : After Row) → rowStep l (p .atoms) (rowsOf l (st .body)) fs ≡ a → ShowsAfter (shownAs l) region r a → ShowsTurn k block at (turnOf (codeOf l) p r) (putMid (fromOf l) (sizeOf l) t region) (rowLine l st fs)
+        go : (a : After Row) → rowStep l (p .atoms) (rowsOf l (st .body)) fs ≡ a → ShowsLine (shownAs l) at region r a → ShowsTurn k block at (turnOf (codeOf l) p r) (putMid (fromOf l) (sizeOf l) t region) (rowLine l st fs)
         go (kept next) e s = rw (line-is (kept next) e, s .0) (rows-shown next (fits-kept l (p .atoms) (rowsOf l (st .body)) next fs (h .holding .listed .fits l) e) (s .1))
-        go (refused n) e s = rw (line-is (refused n) e, s) refl
+        go (refused n) e s = rw (line-is (refused n) e, s) (refl, refl)
 
-pub rows-gather : (l : ListOf) (code k : ℕ) (fs : List Bytes) (p : Progress) (t region : List ℕ) (r : RowAfter)
-    → (6 ≤ code → code ≤ 11 → code ≡ codeOf l) → Told (sizeOf l) (limitOf l) p (take (sizeOf l) (drop (fromOf l) t)) region r (RowsShown l p t region fs r) → length t ≡ 2960
-    → (length (putMid (fromOf l) (sizeOf l) t region) ≡ 2960) × Gathers code k fs p t (putMid (fromOf l) (sizeOf l) t region) (turnOf code p r)
-rows-gather l code k fs p t region r =
-    told-gathers code k fs p t region r (codeOf l) (fromOf l) (sizeOf l) (limitOf l) (RowsShown l p t region fs r) (region-within l) (λ n c. counted-kept l n p c)
-    (λ c low sim block at st h. rw (list-rows k st fs l) (rows-turn l p t region fs r sim k block at st h c))
+pub rows-gather : (l : ListOf) (code k place : ℕ) (fs : List Bytes) (p : Progress) (t region : List ℕ) (r : LineAfter)
+    → Own code (codeOf l) (countOf l p) (limitOf l) p → Told (sizeOf l) (countOf l p) (limitOf l) place p (take (sizeOf l) (drop (fromOf l) t)) region r (RowsShown l place p t region fs r) → length t ≡ 2960
+    → Gathered code k place fs p t (putMid (fromOf l) (sizeOf l) t region) r
+rows-gather l code k place fs p t region r =
+    told-gathers code k place fs p t region r (codeOf l) (fromOf l) (sizeOf l) (countOf l p) (limitOf l) (RowsShown l place p t region fs r) (region-within l) (λ n c. counted-kept l n p c)
+    (λ c low sim block st h. rw (list-rows k st fs l) (rows-turn l place p t region fs r sim k block st h c))
 
 -- THE ATOMS
 -- one atom more, or none, leaves the other lists' rows fitting
@@ -162,11 +173,11 @@ atom-kinds : (k : ℕ) (listed next : List Atom) → ((next ≡ listed) ⊎ Atom
 atom-kinds k listed next (inl e) h = ap (all (atomOk k)) e ∙ h
 atom-kinds k listed next (inr a) h = ap (all (atomOk k)) (a .is) ∙ all-append-both (atomOk k) listed (a .new ∷ []) h (all-one (atomOk k) (a .new) ∙ a .fine)
 
-abbrev pub AtomsShown : Progress → (t region : List ℕ) → List Bytes → RowAfter → (k : ℕ) → Type 0
-AtomsShown p t region fs r k = (listed : List Atom) → length listed ≡ p .atoms → take 768 (drop 0 t) ≡ kindsRegion listed → ShowsAfter kindsRegion region r (atomStep k listed fs)
+abbrev pub AtomsShown : (place : ℕ) → Progress → (t region : List ℕ) → List Bytes → LineAfter → (k : ℕ) → Type 0
+AtomsShown place p t region fs r k = (listed : List Atom) → length listed ≡ p .atoms → take 768 (drop 0 t) ≡ kindsRegion listed → ShowsLine kindsRegion place region r (atomStep k listed fs)
 
-module _ (p : Progress) (t region : List ℕ) (fs : List Bytes) (r : RowAfter) (k : ℕ) (sim : AtomsShown p t region fs r k) where
-  module _ (low : 1 ≤ k) (block : Bytes) (at : ℕ) (st : State) (h : Shows k block at p t st) (c : Counted p) where
+module _ (at : ℕ) (p : Progress) (t region : List ℕ) (fs : List Bytes) (r : LineAfter) (k : ℕ) (sim : AtomsShown at p t region fs r k) where
+  module _ (low : 1 ≤ k) (block : Bytes) (st : State) (h : Shows k block at p t st) (c : Counted p) where
     atoms-listed : (next : List Atom) → ((next ≡ st .body .atoms) ⊎ AtomAdded k (st .body .atoms) next) → Listed (withCount 6 (length next) p) (withAtoms next (st .body))
     unfolding rowsOf
     atoms-listed next a =
@@ -202,14 +213,14 @@ module _ (p : Progress) (t region : List ℕ) (fs : List Bytes) (r : RowAfter) (
         line-is : (a : After Atom) → atomStep k (st .body .atoms) fs ≡ a → atomLine k st fs ≡ withListed st a
         line-is a e = atom-line k st fs ∙ ap (withListed st) e
 
-        go : (a : After Atom) → atomStep k (st .body .atoms) fs ≡ a → ShowsAfter kindsRegion region r a → ShowsTurn k block at (turnOf 6 p r) (putMid 0 768 t region) (atomLine k st fs)
+        go : (a : After Atom) → atomStep k (st .body .atoms) fs ≡ a → ShowsLine kindsRegion at region r a → ShowsTurn k block at (turnOf 6 p r) (putMid 0 768 t region) (atomLine k st fs)
         go (kept next) e s = rw (line-is (kept next) e, s .0) (atoms-shown next (atom-kept k low (st .body .atoms) next fs e) (s .1))
-        go (refused n) e s = rw (line-is (refused n) e, s) refl
+        go (refused n) e s = rw (line-is (refused n) e, s) (refl, refl)
 
-pub atoms-gather : (code k : ℕ) (fs : List Bytes) (p : Progress) (t region : List ℕ) (r : RowAfter)
-    → (6 ≤ code → code ≤ 11 → code ≡ 6) → Told 768 256 p (take 768 (drop 0 t)) region r (AtomsShown p t region fs r k) → length t ≡ 2960
-    → (length (putMid 0 768 t region) ≡ 2960) × Gathers code k fs p t (putMid 0 768 t region) (turnOf code p r)
-atoms-gather code k fs p t region r =
-    told-gathers code k fs p t region r 6 0 768 256 (AtomsShown p t region fs r k) (omega arith)
+pub atoms-gather : (code k place : ℕ) (fs : List Bytes) (p : Progress) (t region : List ℕ) (r : LineAfter)
+    → Own code 6 (p .atoms) 256 p → Told 768 (p .atoms) 256 place p (take 768 (drop 0 t)) region r (AtomsShown place p t region fs r k) → length t ≡ 2960
+    → Gathered code k place fs p t (putMid 0 768 t region) r
+atoms-gather code k place fs p t region r =
+    told-gathers code k place fs p t region r 6 0 768 (p .atoms) 256 (AtomsShown place p t region fs r k) (omega arith)
     (λ n h few. record { atoms = few; bonds = h .bonds; charges = h .charges; radicals = h .radicals; centres = h .centres; pairs = h .pairs })
-    (λ c low sim block at st h. rw (list-atoms k st fs) (atoms-turn p t region fs r k sim low block at st h c))
+    (λ c low sim block st h. rw (list-atoms k st fs) (atoms-turn place p t region fs r k sim low block st h c))

@@ -85,7 +85,7 @@ pub record Flowing (at : ℕ) (p : Progress) : Type 0 where
 
 abbrev pub FlowingTurn : (at : ℕ) → Turn → Type 0
 FlowingTurn at (Go p) = Flowing at p
-FlowingTurn at (Stop n) = Unit {0}
+FlowingTurn at (Stop n q) = Unit {0}
 
 -- p with the counts of q: what a list's line leaves
 abbrev pub recounted : (p q : Progress) → Progress
@@ -146,11 +146,11 @@ withCount code c p = record {
 
 abbrev pub CountedTurn : Progress → Turn → Type 0
 CountedTurn p (Go q) = Counted q × (q ≡ recounted p q)
-CountedTurn p (Stop n) = Unit {0}
+CountedTurn p (Stop n q) = Unit {0}
 
 abbrev pub BoundedTurn : (size : ℕ) → Turn → Type 0
 BoundedTurn size (Go p) = Bounded size p
-BoundedTurn size (Stop n) = Unit {0}
+BoundedTurn size (Stop n q) = Unit {0}
 
 -- The structure so far: how many atoms and rows it has, and what its rows keep
 pub record Listed (p : Progress) (s : Structure) : Type 0 where

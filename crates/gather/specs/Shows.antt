@@ -20,8 +20,9 @@ pub record Shows (k : ℕ) (block : Bytes) (at : ℕ) (p : Progress) (t : List �
   pub top : p .top ≡ topOf (st .seen)
   pub holding : Holding k block p t st
 
+-- a refusal has the turn's number and the place of the line
 abbrev pub ShowsTurn : (k : ℕ) → Bytes → (at : ℕ) → Turn → List ℕ → Turned → Type 0
 ShowsTurn k block at (Go p) t (going st) = Shows k block at p t st
 ShowsTurn k block at (Go p) t (stopping n) = ⊥
-ShowsTurn k block at (Stop m) t (going st) = ⊥
-ShowsTurn k block at (Stop m) t (stopping n) = m ≡ n
+ShowsTurn k block at (Stop m q) t (going st) = ⊥
+ShowsTurn k block at (Stop m q) t (stopping n) = (m ≡ n) × (q ≡ at)

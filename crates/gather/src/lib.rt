@@ -4,34 +4,43 @@ mod runs; // runs.rt: quick rows one behind the other
 mod turns; // turns.rt: a line in its list's region of the scratch
 
 ghost use mathlib.Core.Path.{_≡_};
-ghost use Prim.Native.Nat.{ℕ, _≤_};
+ghost use Prim.Native.Nat.{_≤_};
 ghost use lib.ListN.{length};
 ghost use Rattle.format.specs.Bytes.{Bytes, fields};
 ghost use Rattle.format.specs.Reading.{State};
 ghost use Rattle.gather.specs.Progress.{Counted, CountedTurn};
 ghost use Rattle.gather.specs.Shows.{Shows, ShowsTurn};
-ghost use Rattle.gather.specs.ListLine.{listLine};
+ghost use Rattle.gather.specs.ListLine.{listLine, Lent, TurnUntouched};
 ghost use Rattle.gather.specs.Runs.{RowsRan};
 use crate::progress::Progress;
 use crate::progress::Turn;
 use crate::runs::atom_run;
 use crate::runs::bond_run;
-use crate::turns::row_after;
+use crate::turns::line_after;
 use crate::turns::with_count;
-use sorted::after::RowAfter;
+use sorted::after::LineAfter;
+use sorted::scratch::Scratch;
 
-// A line of the list whose label has the code: 6 ATOMLIST, 7 BONDLIST, 8 CHARGE, 9 RADICAL, 10 STEREOCENTER, 11 STEREOPAIR. The line is without its comment.
-// What no reading lends, another length or counts over their limits, is answered before anything is touched.
-pub fn list_turn(line: &[u8], code: u32, last: u32, p: Progress, scratch: &mut [u32]) -> Turn
-    ensures { λ r. ⌜ (length (now (scratch .exit)) ≡ length (now (scratch .entry))) × (length (now (scratch .entry)) ≡ 2960 → Counted p → 1 ≤ last → 6 ≤ code → code ≤ 11 → CountedTurn p r × ((block : Bytes) (at : ℕ) (st : State) → Shows last block at p (now (scratch .entry)) st →
-        ShowsTurn last block at r (now (scratch .exit)) (listLine code last st (fields (now (line .entry)))))) ⌝ }
+// A line of the list whose label has the code: 6 ATOMLIST, 7 BONDLIST, 8 CHARGE, 9 RADICAL, 10 STEREOCENTER, 11 STEREOPAIR. The line is without its comment; `place` is
+// where it stands in its block. What no reading lends, another length, too many atoms or too many rows of the list, is answered 0, and nothing is touched.
+pub fn list_turn(
+    line: &[u8],
+    place: usize,
+    code: u32,
+    last: u32,
+    p: Progress,
+    scratch: &mut [u32],
+) -> Turn
+    ensures { λ r. ⌜ (length (now (scratch .exit)) ≡ length (now (scratch .entry))) × (length (now (scratch .entry)) ≡ 2960 → Counted p → 1 ≤ last → 6 ≤ code → code ≤ 11 → CountedTurn p r × ((block : Bytes) (st : State) → Shows last block place p (now (scratch .entry)) st →
+        ShowsTurn last block place r (now (scratch .exit)) (listLine code last st (fields (now (line .entry))))))
+        × ((Lent code p (now (scratch .entry)) → ⊥) → TurnUntouched place (now (scratch .entry)) (now (scratch .exit)) r) ⌝ }
 {
-    if scratch.len() != 2960 {
-        return Turn::Stop(0);
+    if scratch.len() != Scratch::SIZE {
+        return Turn::Stop(0, place);
     }
-    match row_after(line, code, last, p, scratch) {
-        RowAfter::Kept(count) => Turn::Go(with_count(code, count, p)),
-        RowAfter::Stop(number) => Turn::Stop(number),
+    match line_after(line, place, code, last, p, scratch) {
+        LineAfter::Kept(count) => Turn::Go(with_count(code, count, p)),
+        LineAfter::Refused(number, at) => Turn::Stop(number, at),
     }
 }
 
@@ -45,7 +54,7 @@ pub struct Ran {
 pub fn rows_run(block: &[u8], at: usize, last: u32, mut p: Progress, scratch: &mut [u32]) -> Ran
     ensures { λ r. ⌜ (length (now (scratch .exit)) ≡ length (now (scratch .entry))) × RowsRan last (now (block .entry)) at p (now (scratch .entry)) (now (scratch .exit)) r ⌝ }
 {
-    if scratch.len() != 2960 {
+    if scratch.len() != Scratch::SIZE {
         return Ran {
             place: at,
             known: p,

@@ -23,8 +23,8 @@ pub struct Progress {
     pub id: u32,
 }
 
-// A line's turn: what is known behind it, or the refusal's number.
+// A line's turn: what is known behind it, or the refusal's number and the place of its line.
 pub enum Turn {
     Go(Progress),
-    Stop(u32),
+    Stop(u32, usize),
 }

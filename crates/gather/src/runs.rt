@@ -5,12 +5,14 @@ ghost use lib.ListN.{length};
 ghost use Rattle.gather.specs.Runs.{AtomsRan, BondsRan};
 use atoms::put_atom;
 use elements::isotope_of;
+use format::Table;
 use quick::atom::QuickAtom;
 use quick::atom::quick_atom;
 use quick::bond::QuickBond;
 use quick::bond::quick_bond;
 use sorted::after::RowAfter;
 use sorted::keyed::bond_joined;
+use sorted::scratch::Scratch;
 
 // The first line that was not gathered, and how many rows the list has before it.
 pub struct Run {
@@ -25,7 +27,7 @@ pub fn atom_run(block: &[u8], at: usize, last: u32, atoms: usize, scratch: &mut 
 {
     let mut place = at;
     let mut count = atoms;
-    while count < 256 {
+    while count < Table::ATOMS {
         let QuickAtom::Values(number, mark, hydrogens, next) = quick_atom(block, place) else {
             return Run { place, count };
         };
@@ -39,7 +41,7 @@ pub fn atom_run(block: &[u8], at: usize, last: u32, atoms: usize, scratch: &mut 
             return Run { place, count };
         }
         put_atom(
-            &mut scratch[0..768],
+            &mut scratch[0..Scratch::KINDS],
             count,
             element,
             isotope.mass,
@@ -58,17 +60,24 @@ pub fn bond_run(block: &[u8], at: usize, atoms: usize, bonds: usize, scratch: &m
 {
     let mut place = at;
     let mut count = bonds;
-    if 256 < atoms {
+    if Table::ATOMS < atoms {
         return Run { place, count };
     }
-    if 512 < bonds {
+    if Table::BONDS < bonds {
         return Run { place, count };
     }
     while place < block.len() {
         let QuickBond::Values(first, second, kind, next) = quick_bond(block, place) else {
             return Run { place, count };
         };
-        let after = bond_joined(first, second, kind, atoms, count, &mut scratch[1410..2434]);
+        let after = bond_joined(
+            first,
+            second,
+            kind,
+            atoms,
+            count,
+            &mut scratch[Scratch::FIRST_BOND..Scratch::FIRST_CENTRE],
+        );
         let RowAfter::Kept(more) = after else {
             return Run { place, count };
         };

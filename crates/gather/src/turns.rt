@@ -5,27 +5,52 @@ ghost use Prim.Native.Nat.{_≤_};
 ghost use lib.ListN.{length};
 ghost use Rattle.format.specs.Bytes.{fields};
 ghost use Rattle.gather.specs.Progress.{withCount};
-ghost use Rattle.gather.specs.ListLine.{turnOf, Gathers};
+ghost use Rattle.sorted.specs.Shown.{LineUntouched};
+ghost use Rattle.gather.specs.ListLine.{turnOf, Gathers, Lent};
 use crate::progress::Progress;
 use atoms::atom_line;
-use sorted::after::RowAfter;
+use sorted::after::LineAfter;
 use sorted::keyed::bond_line;
 use sorted::keyed::centre_line;
 use sorted::keyed::pair_line;
+use sorted::scratch::Scratch;
 use spread::spread_line;
 
 // What the line leaves of its list: each list's region is lent on to the list's own line.
-pub fn row_after(line: &[u8], code: u32, last: u32, p: Progress, scratch: &mut [u32]) -> RowAfter
+pub fn line_after(
+    line: &[u8],
+    place: usize,
+    code: u32,
+    last: u32,
+    p: Progress,
+    scratch: &mut [u32],
+) -> LineAfter
     requires { ⌜ length (now scratch) ≡ 2960 ⌝ }
-    ensures { λ r. ⌜ (length (now (scratch .exit)) ≡ 2960) × Gathers code last (fields (now (line .entry))) p (now (scratch .entry)) (now (scratch .exit)) (turnOf code p r) ⌝ }
+    ensures { λ r. ⌜ (length (now (scratch .exit)) ≡ 2960) × Gathers code last place (fields (now (line .entry))) p (now (scratch .entry)) (now (scratch .exit)) (turnOf code p r)
+        × ((Lent code p (now (scratch .entry)) → ⊥) → LineUntouched place (now (scratch .entry)) (now (scratch .exit)) r) ⌝ }
 {
     match code {
-        6 => atom_line(line, last, p.atoms, &mut scratch[0..768]),
-        7 => bond_line(line, p.atoms, p.bonds, &mut scratch[1410..2434]),
-        8 => spread_line(line, true, p.atoms, p.charges, &mut scratch[768..1089]),
-        9 => spread_line(line, false, p.atoms, p.radicals, &mut scratch[1089..1410]),
-        10 => centre_line(line, p.atoms, p.centres, &mut scratch[2434..2690]),
-        _ => pair_line(line, p.atoms, p.pairs, &mut scratch[2690..2946]),
+        6 => atom_line(line, place, last, p.atoms, &mut scratch[0..Scratch::KINDS]),
+        7 => {
+            let region = &mut scratch[Scratch::FIRST_BOND..Scratch::FIRST_CENTRE];
+            bond_line(line, place, p.atoms, p.bonds, region)
+        }
+        8 => {
+            let region = &mut scratch[Scratch::FIRST_CHARGE..Scratch::FIRST_RADICAL];
+            spread_line(line, place, true, p.atoms, p.charges, region)
+        }
+        9 => {
+            let region = &mut scratch[Scratch::FIRST_RADICAL..Scratch::FIRST_BOND];
+            spread_line(line, place, false, p.atoms, p.radicals, region)
+        }
+        10 => {
+            let region = &mut scratch[Scratch::FIRST_CENTRE..Scratch::FIRST_PAIR];
+            centre_line(line, place, p.atoms, p.centres, region)
+        }
+        _ => {
+            let region = &mut scratch[Scratch::FIRST_PAIR..Scratch::FIRST_LABEL];
+            pair_line(line, place, p.atoms, p.pairs, region)
+        }
     }
 }
 

@@ -1,6 +1,6 @@
 -- The table's first sixteen numbers as they are put there: document 01, "The structure table" ("start and length in the block of title, origin, owner (empty: 0,
 -- 0)"; "13 to 15 are 0"). Assumes nothing.
-use Prim.Native.Nat.{ℕ, _+_, _-_, _≤_, _<_}
+use Prim.Native.Nat.{ℕ, _+_, _-_, _*_, _≤_, _<_}
 use mathlib.Core.Path.{_≡_, refl, sym, ap, _∙_}
 use mathlib.Core.List.{List, [], _∷_}
 use native.Mathlib.Omega.{arith}
@@ -9,7 +9,7 @@ use lib.IntN.{ℤ, pos}
 use lib.Seq.{sets, length-sets, length-take-le}
 use Rattle.format.specs.Bytes.{Bytes, lead, trim}
 use Rattle.format.specs.Reading.{spanFrom, spanOf}
-use Rattle.format.specs.Table.{zeros, spanCells}
+use Rattle.format.specs.Table.{zeros, spanCells, textPlace}
 use Rattle.fields.specs.Trims.{Trimmed}
 use Rattle.fields.specs.declared.Field.{Field}
 use Rattle.gather.specs.Progress.{partOf, proseAt, Within}
@@ -17,6 +17,7 @@ use Rattle.gather.specs.declared.progress.Part.{Part}
 use Rattle.gather.specs.declared.progress.Progress.{Progress}
 use Rattle.filling.specs.Filled.{signedOf, placed}
 use Rattle.filling.proofs.FillLaws.{signed-small, placed-next}
+use Rattle.format.proofs.PlaceLaws.{text-place}
 use Rattle.header.specs.Header.{countsOut, headerOut}
 
 -- COUNTS, one by one
@@ -64,6 +65,10 @@ module _ (block : Bytes) (x : Part) (r : Field) (w : Within (length block) x) (h
 -- what putting the span's two numbers leaves
 pub span-placed : (t t₁ t₂ : List ℤ) (at : ℕ) (a b : ℤ) (ws : List ℤ) → t₁ ≡ placed t at (a ∷ []) → t₂ ≡ placed t₁ (at + 1) (b ∷ []) → a ∷ b ∷ [] ≡ ws → t₂ ≡ placed t at ws
 span-placed t t₁ t₂ at a b ws e f g = placed-next t t₁ t₂ at a (b ∷ []) e f ∙ ap (placed t at) g
+
+-- a text's numbers stand where the table's type says
+pub text-placed : (t t′ vs : List ℤ) (i at : ℕ) → i < 3 → at ≡ textPlace i → t′ ≡ placed t at vs → t′ ≡ placed t (7 + 2 * i) vs
+text-placed t t′ vs i at h a e = e ∙ ap (λ k. placed t k vs) (a ∙ text-place i h)
 
 -- THE HEADER
 pub header-is : (t t₀ t₁ t₂ t₃ t₄ : List ℤ) (block : Bytes) (p : Progress) → length t ≡ 16 → t₀ ≡ zeros (length t) → t₁ ≡ placed t₀ 0 (countsOut p)

@@ -1,6 +1,7 @@
 // Whether progress is one that a reading leaves: its counts within their limits, its parts within the block.
 ghost use Rattle.gather.specs.Progress.{Counted, Within, Bounded};
 ghost use Rattle.header.specs.Header.{Tells};
+use format::Table;
 use gather::progress::Part;
 use gather::progress::Progress;
 
@@ -18,22 +19,22 @@ fn lies_in(size: usize, part: Part) -> bool
 fn is_counted(p: Progress) -> bool
     ensures { λ r. ⌜ Tells r (Counted p) ⌝ }
 {
-    if 256 < p.atoms {
+    if Table::ATOMS < p.atoms {
         return false;
     }
-    if 512 < p.bonds {
+    if Table::BONDS < p.bonds {
         return false;
     }
-    if 64 < p.charges {
+    if Table::CHARGES < p.charges {
         return false;
     }
-    if 64 < p.radicals {
+    if Table::RADICALS < p.radicals {
         return false;
     }
-    if 128 < p.centres {
+    if Table::CENTRES < p.centres {
         return false;
     }
-    p.pairs <= 128
+    p.pairs <= Table::PAIRS
 }
 
 // Whether all of it is: the counts, the code, the id and the parts.

@@ -60,7 +60,7 @@ pub fn fill_header(part: &mut [i32], block: &[u8], p: Progress)
     }
     clearing::clear_part(part);
     put_counts(part, p);
-    put_text(part, Table::FIRST_TEXT, block, p.title);
-    put_text(part, Table::FIRST_TEXT + 2, block, p.origin);
-    put_text(part, Table::FIRST_TEXT + 4, block, p.owner);
+    put_text(part, Table::text(0), block, p.title);
+    put_text(part, Table::text(1), block, p.origin);
+    put_text(part, Table::text(2), block, p.owner);
 }

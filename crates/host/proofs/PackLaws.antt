@@ -12,22 +12,16 @@ use Rattle.format.specs.Bytes.{Bytes, cut}
 use Rattle.format.specs.Reading.{spanFrom}
 use Rattle.format.specs.Table.{ReadResult, readResult}
 use Rattle.format.specs.Writing.{WriteResult}
-use Rattle.format.specs.Walking.{walkAt, titleOf, packed, packedResult}
+use Rattle.format.specs.Walking.{titleOf, packed, packedResult}
 use Rattle.reader.specs.declared.Answer.{Answer}
 use Rattle.reader.specs.Answers.{shownRead}
 use Rattle.fields.specs.declared.Field.{Field}
-use Rattle.transfer.specs.declared.walks.Walked.{Walked}
-use Rattle.transfer.specs.Shown.{shown}
 use Rattle.transfer.specs.Texts.{titleStart, Titled}
 use Rattle.transfer.proofs.NameLaws.{title-size}
 use Rattle.writer.specs.declared.Answer.{Answer as Written}
 use Rattle.writer.specs.declared.Answer.the-variants as W
 use Rattle.writer.specs.Answers.{shown as shownWrite}
-use Rattle.host.specs.Packed.{packedWalk, packedSpan, packedTitle, packedWritten}
-
--- the walk's answer, from the variant it is
-pub walk-packed : (s : Bytes) (place : ℕ) (r k : Walked) → shown r ≡ walkAt s place → r ≡ k → packedWalk (shown k) ≡ packedWalk (walkAt s place)
-walk-packed s place r k h e = ap packedWalk (ap shown (sym e) ∙ h)
+use Rattle.host.specs.Packed.{packedSpan, packedTitle, packedWritten}
 
 -- a reading's answer, from the variant it is, and the table after it
 module _ (x : ReadResult) (r k : Answer) (t : List ℤ) (h : shownRead r t ≡ x) (e : r ≡ k) where

@@ -40,15 +40,20 @@ fn grown_key(key: u64, letter: u8) -> u64
     1152921504606846976
 }
 
+// The bytes before `A` and before `a`: a letter's place in the alphabet counts from 1.
+const BEFORE_UPPER: u8 = 64;
+
+const BEFORE_LOWER: u8 = 96;
+
 // The key with one byte of the label more: "For comparison letters become upper case".
 fn next_key(key: u64, b: u8) -> u64
     ensures { λ r. ⌜ r ≡ nextKey key b ⌝ }
 {
     if alphabet::is_upper(b) {
-        return grown_key(key, b - 64);
+        return grown_key(key, b - BEFORE_UPPER);
     }
     if alphabet::is_lower(b) {
-        return grown_key(key, b - 96);
+        return grown_key(key, b - BEFORE_LOWER);
     }
     if is_dropped(b) {
         return key;

@@ -8,11 +8,14 @@ ghost use Rattle.lists.specs.Lists.{all};
 ghost use Rattle.format.specs.Bytes.{within};
 ghost use Rattle.lines.specs.Looks.{Looking};
 
+// How many values a byte has.
+const BYTES: u32 = 256;
+
 // Whether the byte is 32 to 126: 32 less than it, as a byte, is at most 94. One comparison, so that no way leads around it.
 fn is_plain(b: u8) -> bool
     ensures { λ r. ⌜ r ≡ within 32 126 b ⌝ }
 {
-    (b as u32 + 224) % 256 <= 94
+    (b as u32 + 224) % BYTES <= 94
 }
 
 // Whether it was so of those before, and the byte there is 32 to 126.

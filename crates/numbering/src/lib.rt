@@ -13,6 +13,11 @@ ghost use Rattle.sorted.specs.Regions.{Fits, spreadRegion, coded};
 ghost use Rattle.spread.specs.Members.{listOf};
 ghost use Rattle.numbering.specs.Numbering.{isNew, nextAfter, orderAfter, withVoid, Renumbered, putAt};
 ghost use Rattle.numbering.specs.Renumbers.{Renumbering};
+use format::Table;
+use sorted::scratch::Scratch;
+
+// How many numbers an order has: rows are numbered from 1 as they come, and 0 stands for no row.
+const ORDER: usize = Table::CHARGES + 1;
 
 // The row of an atom gets the next number where it has none; the answer is the number for the next such row.
 fn number_row(row: usize, next: u32, order: &mut [u32]) -> u32
@@ -57,7 +62,7 @@ fn order_of(region: &[u32], atoms: usize, rows: usize, order: &mut [u32])
         next = number_row(region[i] as usize, next, order);
         i += 1;
     }
-    number_void(region[320] as usize, rows, order);
+    number_void(region[Scratch::WITHOUT_ATOMS] as usize, rows, order);
 }
 
 // A value is put to the place that a number from 1 says.
@@ -80,29 +85,28 @@ fn sorted_values(region: &[u32], order: &[u32], rows: usize, values: &mut [u32])
 {
     let mut i = 0;
     while i < rows {
-        put_at(values, order[i + 1] as usize, region[256 + i]);
+        put_at(values, order[i + 1] as usize, region[Table::ATOMS + i]);
         i += 1;
     }
 }
 
-// The numbers and values of charge or radical rows in their sorted order, for tables of zeros. What no reading lends, another length or a count over its limit, is
-// untouched.
+// The numbers and values of charge or radical rows in their sorted order, for tables of zeros.
 pub fn renumber(region: &[u32], atoms: usize, rows: usize, order: &mut [u32], values: &mut [u32])
     ensures { λ _. ⌜ Renumbering (now (region .entry)) atoms rows (now (order .entry)) (now (values .entry)) (now (order .exit)) (now (values .exit)) ⌝ }
 {
-    if region.len() != 321 {
+    if region.len() != Scratch::SPREAD {
         return;
     }
-    if order.len() != 65 {
+    if order.len() != ORDER {
         return;
     }
-    if values.len() != 64 {
+    if values.len() != Table::CHARGES {
         return;
     }
-    if 256 < atoms {
+    if Table::ATOMS < atoms {
         return;
     }
-    if 64 < rows {
+    if Table::CHARGES < rows {
         return;
     }
     order_of(region, atoms, rows, order);

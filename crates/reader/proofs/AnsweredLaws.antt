@@ -1,64 +1,49 @@
 -- From a block's judgement to the answer of a reading and to the one number of a check: document 01, "Refusal numbers". Assumes nothing.
-use Prim.Native.Nat.{ℕ, _+_, _≤_, _<_}
-use mathlib.Core.Path.{_≡_, refl, sym, ap, _∙_, subst}
-use mathlib.Core.Bool.{Bool, true, false}
-use mathlib.Core.List.{List, [], _∷_, _++_, map}
-use mathlib.Core.Logic.{_⊎_, inl, inr}
-use native.Mathlib.Nat.{zero-add}
+use Prim.Native.Nat.{ℕ, _≤_, _<_}
+use mathlib.Core.Path.{_≡_, sym, ap, _∙_, subst}
+use mathlib.Core.Bool.{true}
+use mathlib.Core.List.{List, _++_, map}
 use native.Mathlib.Omega.{arith}
-use lib.ListN.{length, drop, replicate, length-append, length-replicate}
+use lib.ListN.{length, drop, replicate, length-replicate}
 use lib.IntN.{ℤ}
 use borrow.Author.Tests.{lt-ltb, le-ltb}
-use Rattle.lists.specs.Lists.{isNil, concat, filled}
-use Rattle.lists.proofs.PartLaws.{concat-append, filled-nil}
+use Rattle.lists.proofs.PartLaws.{filled-nil}
 use Rattle.format.specs.Bytes.{Bytes, cut}
-use Rattle.format.specs.Reading.{State, Outcome, Accepted, Refused, Rules, strict, readLines, start, ending, finished, spanOf, Unread, readingOf, readBlock}
-use Rattle.format.specs.Table.{zeros, encode, readAnswer, tableOf, readResult}
+use Rattle.format.specs.Reading.{State, Outcome, Accepted, Refused, Rules, strict, readLines, start, finished, spanOf, Unread, readingOf, readBlock}
+use Rattle.format.specs.Table.{zeros, encode, ReadResult, readAnswer, tableOf, readResult}
 use Rattle.format.specs.Walking.{packed, packedResult, checkOf}
-use Rattle.format.proofs.CutLaws.{concat-cut}
-use Rattle.format.proofs.ReadingLaws.{StoppedAt, Unended, stopped, goes-at}
+use Rattle.format.proofs.RefusedLaws.{short-untouched, long-read, result-placed}
 use Rattle.gather.specs.Progress.{Bounded, Holding}
 use Rattle.gather.specs.declared.progress.Progress.{Progress}
 use Rattle.filling.proofs.FillLaws.{zeros-length}
-use Rattle.reader.specs.Lines.{rulesOf, Ruled}
-use Rattle.reader.specs.Judging.{Stands, ShowsJudged}
-use Rattle.reader.specs.declared.rules.Rules.{Rules as Given}
-use Rattle.reader.specs.declared.block.Judged.{Judged}
-use Rattle.reader.specs.declared.block.Judged.the-variants as J
+use Rattle.judgement.specs.Lines.{rulesOf}
+use Rattle.judgement.specs.Judging.{Stands, ShowsJudged, Judges}
+use Rattle.judgement.specs.declared.rules.Rules.{Rules as Given}
+use Rattle.judgement.specs.declared.Judged.{Judged}
+use Rattle.judgement.specs.declared.Judged.the-variants as J
+use Rattle.reader.specs.Answers.{shownRead, Told}
+use Rattle.reader.specs.declared.Answer.{Answer}
+use Rattle.reader.specs.declared.Answer.the-variants as A
+use Rattle.reader.proofs.ToldLaws.{refused-told}
 
--- A REFUSAL'S PLACE lies in the block, or at its end
-ending-place : (e : Bool) (st : State) (n place size : ℕ) → st .at ≡ size → ending false e st ≡ Refused n place → place ≤ size
-ending-place true st n place size h q = let z : 0 ≡ place = cc in omega arith
-ending-place false st n place size h q = let z : st .at ≡ place = cc in omega arith
+-- WHAT A JUDGEMENT SHOWS: 103 elements known, over a scratch of zeros
+abbrev pub given : Given
+given = record { last = 103; totals = true }
 
-pub refused-within : (u : Rules) (b : Bytes) (n place : ℕ) → readLines u start (cut b) ≡ Refused n place → place ≤ length b
-unfolding start
-refused-within u b n place h = go (stopped u (cut b) start n place h)
-  where
-    go : StoppedAt u start (cut b) n place ⊎ Unended u start (cut b) n place → place ≤ length b
-    go (inl x) =
-        let whole : length b ≡ length (concat (x .before)) + length (concat (x .line ∷ x .behind)) =
-        ap length (sym (concat-cut b) ∙ ap concat (x .lines) ∙ concat-append (x .before) (x .line ∷ x .behind)) ∙ length-append (concat (x .before)) (concat (x .line ∷ x .behind)) in
-        omega (arith, x .place-is)
-    go (inr x) = ending-place (isNil (x .met .seen)) (x .met) n place (length b) (goes-at u (cut b) start (x .met) (x .goes) ∙ zero-add (length (concat (cut b))) ∙ ap length (concat-cut b)) (x .ends)
+module _ (b : Bytes) (s : List ℕ) (j : Judged) (judges : Judges given b (replicate 2960 0) s j) where
+  scratch-long : length s ≡ 2960
+  scratch-long = judges .long ∙ length-replicate {A = ℕ} 2960 0
 
--- WHAT A JUDGEMENT SHOWS
-module _ (u : Given) (b : Bytes) (t : List ℕ) (j : Judged) (h : ShowsJudged u b t j) where
-  pub stands : (p : Progress) → j ≡ J.Accepted p → Stands u b p t
-  stands p e = subst (ShowsJudged u b t) e h
+  shown : ShowsJudged given b s j
+  shown = judges .shows (record { low = omega arith; high = omega arith }) (sym (filled-nil 0 2960))
 
-  pub refuses : (n place : ℕ) → j ≡ J.Refused n place → readLines (rulesOf u) start (cut b) ≡ Refused n place
-  refuses n place e = subst (ShowsJudged u b t) e h
+  stands : (p : Progress) → j ≡ J.Accepted p → Stands given b p s
+  stands p e = subst (ShowsJudged given b s) e shown
 
--- THE TABLE'S LENGTH, then the block's
-pub read-short : (k : ℕ) (b : Bytes) (t : List ℤ) → length t < 3856 → readAnswer 1 0 t ≡ readResult k b t
-unfolding readResult
-read-short k b t h = rw (lt-ltb (length t) 3856 h, readResult)
+  refuses : (n place : ℕ) → j ≡ J.Refused n place → readLines (rulesOf given) start (cut b) ≡ Refused n place
+  refuses n place e = subst (ShowsJudged given b s) e shown
 
-read-enough : (k : ℕ) (b : Bytes) (t : List ℤ) → 3856 ≤ length t → readResult k b t ≡ tableOf (drop 3856 t) (readBlock (strict k) b)
-unfolding readResult
-read-enough k b t h = rw (le-ltb (length t) 3856 h, readResult)
-
+-- THE BLOCK'S LENGTH
 block-long : (u : Rules) (b : Bytes) → 32768 < length b → readBlock u b ≡ Unread 2 0
 unfolding readBlock
 block-long u b h = rw (lt-ltb 32768 (length b) h, readBlock)
@@ -67,26 +52,47 @@ block-lines : (u : Rules) (b : Bytes) → length b ≤ 32768 → readBlock u b �
 unfolding readBlock
 block-lines u b h = rw (le-ltb 32768 (length b) h, readBlock)
 
--- READING, 103 elements known
-abbrev pub given : Given
-given = record { last = 103; totals = true }
+-- READING
+-- what `read` promises of an answer and the table after it
+abbrev pub Reads : Bytes → (before after : List ℤ) → Answer → Type 0
+Reads b t t′ r = (shownRead r t′ ≡ readResult 103 b t) × Told r
+
+pub read-short : (b : Bytes) (t : List ℤ) → length t < 3856 → Reads b t t (A.Refused 1 0)
+read-short b t h = (sym (short-untouched 103 b t h), λ e. omega arith)
+
+-- the table after a refusal, and what `refuse` promises of it
+abbrev cleared : List ℤ → List ℤ
+cleared t = zeros 3856 ++ drop 3856 t
+
+abbrev pub Refuses : (n place : ℕ) → (before after : List ℤ) → Answer → Type 0
+Refuses n place t t′ r = (r ≡ A.Refused n place) × (3856 ≤ length t → t′ ≡ cleared t)
 
 module _ (b : Bytes) (t : List ℤ) (l : 3856 ≤ length t) where
-  pub read-long : (t′ : List ℤ) → 32768 < length b → t′ ≡ zeros 3856 ++ drop 3856 t → readAnswer 2 0 t′ ≡ readResult 103 b t
-  read-long t′ h e = ap (readAnswer 2 0) e ∙ sym (read-enough 103 b t l ∙ ap (tableOf (drop 3856 t)) (block-long (strict 103) b h))
+  long-told : 32768 < length b → readResult 103 b t ≡ readAnswer 2 0 (cleared t)
+  long-told h = long-read 103 b t l ∙ ap (tableOf (drop 3856 t)) (block-long (strict 103) b h)
 
   lines-told : length b ≤ 32768 → (o : Outcome) → readLines (strict 103) start (cut b) ≡ o → readResult 103 b t ≡ tableOf (drop 3856 t) (readingOf o)
-  lines-told h o e = read-enough 103 b t l ∙ ap (tableOf (drop 3856 t)) (block-lines (strict 103) b h ∙ ap readingOf e)
+  lines-told h o e = long-read 103 b t l ∙ ap (tableOf (drop 3856 t)) (block-lines (strict 103) b h ∙ ap readingOf e)
 
-  module _ (s : List ℕ) (j : Judged) (h : length b ≤ 32768) (shows : ShowsJudged given b s j) where
-    pub read-accepted : (t′ : List ℤ) (p : Progress) → j ≡ J.Accepted p → length s ≡ 2960
-        → ((k : ℕ) (st : State) → 3856 ≤ length t → length s ≡ 2960 → length b ≤ 32768 → Bounded (length b) p → Holding k b p s st → k ≤ 103 → t′ ≡ encode (finished (st .body)) (map spanOf (st .texts)) ++ drop 3856 t) → readAnswer 0 0 t′ ≡ readResult 103 b t
-    read-accepted t′ p e long f =
-        let g = stands given b s j shows p e in
-        ap (readAnswer 0 0) (f 103 (g .state) l long h (g .bounded) (g .holding) (omega arith)) ∙ sym (lines-told h (Accepted (g .state)) (g .is))
+  as-refused : (n place : ℕ) → 0 < n → readResult 103 b t ≡ readAnswer n place (cleared t) → (t′ : List ℤ) (r : Answer) → Refuses n place t t′ r → Reads b t t′ r
+  as-refused n place some e t′ r h = rw (h .0) (ap (readAnswer n place) (h .1 l) ∙ sym e, λ z. omega arith)
 
-    pub read-refused : (t′ : List ℤ) (n place : ℕ) → j ≡ J.Refused n place → t′ ≡ zeros 3856 ++ drop 3856 t → readAnswer n place t′ ≡ readResult 103 b t
-    read-refused t′ n place e f = ap (readAnswer n place) f ∙ sym (lines-told h (Refused n place) (refuses given b s j shows n place e))
+  pub read-long : (t′ : List ℤ) (r : Answer) → 32768 < length b → Refuses 2 0 t t′ r → Reads b t t′ r
+  read-long t′ r h = as-refused 2 0 (omega arith) (long-told h) t′ r
+
+  module _ (s : List ℕ) (j : Judged) (h : length b ≤ 32768) (judges : Judges given b (replicate 2960 0) s j) where
+    pub read-accepted : (t′ : List ℤ) (p : Progress) → j ≡ J.Accepted p
+        → ((k : ℕ) (st : State) → 3856 ≤ length t → length s ≡ 2960 → length b ≤ 32768 → Bounded (length b) p → Holding k b p s st → k ≤ 103 → t′ ≡ encode (finished (st .body)) (map spanOf (st .texts)) ++ drop 3856 t) → Reads b t t′ A.Accepted
+    read-accepted t′ p e f =
+        let g = stands b s j judges p e in (
+          ap (readAnswer 0 0) (f 103 (g .state) l (scratch-long b s j judges) h (g .bounded) (g .holding) (omega arith)) ∙ sym (lines-told h (Accepted (g .state)) (g .is)),
+          tt,
+        )
+
+    pub read-refused : (t′ : List ℤ) (r : Answer) (n place : ℕ) → j ≡ J.Refused n place → Refuses n place t t′ r → Reads b t t′ r
+    read-refused t′ r n place e =
+        let q = refuses b s j judges n place e in
+        as-refused n place (refused-told (strict 103) start (cut b) n place q) (lines-told h (Refused n place) q) t′ r
 
 -- CHECKING: the same, of a table of zeros
 module _ (b : Bytes) where
@@ -95,20 +101,20 @@ module _ (b : Bytes) where
 
   pub check-long : (r : ℕ) → 32768 < length b → r ≡ packed 2 0 → r ≡ checkOf 103 b
   unfolding checkOf
-  check-long r h e = e ∙ ap packedResult (read-long b (zeros 3856) long-enough (zeros 3856 ++ drop 3856 (zeros 3856)) h refl)
+  check-long r h e = e ∙ sym (ap packedResult (long-told b (zeros 3856) long-enough h))
 
-  module _ (s : List ℕ) (j : Judged) (h : length b ≤ 32768) (shows : ShowsJudged given b s j) where
-    pub check-accepted : (p : Progress) → j ≡ J.Accepted p → 0 ≡ checkOf 103 b
+  module _ (s : List ℕ) (j : Judged) (h : length b ≤ 32768) (judges : Judges given b (replicate 2960 0) s j) where
+    lines-packed : (o : Outcome) → readLines (strict 103) start (cut b) ≡ o → packedResult (tableOf (drop 3856 (zeros 3856)) (readingOf o)) ≡ checkOf 103 b
     unfolding checkOf
-    check-accepted p e = let g = stands given b s j shows p e in sym (ap packedResult (lines-told b (zeros 3856) long-enough h (Accepted (g .state)) (g .is)))
+    lines-packed o e = sym (ap packedResult (lines-told b (zeros 3856) long-enough h o e))
+
+    pub check-accepted : (p : Progress) → j ≡ J.Accepted p → 0 ≡ checkOf 103 b
+    check-accepted p e = let g = stands b s j judges p e in lines-packed (Accepted (g .state)) (g .is)
 
     pub check-refused : (r n place : ℕ) → j ≡ J.Refused n place → r ≡ packed n place → r ≡ checkOf 103 b
-    unfolding checkOf
-    check-refused r n place e f = f ∙ ap packedResult (read-refused b (zeros 3856) long-enough s j h shows (zeros 3856 ++ drop 3856 (zeros 3856)) n place e refl)
+    check-refused r n place e f = f ∙ lines-packed (Refused n place) (refuses b s j judges n place e)
 
     pub place-within : (n place : ℕ) → j ≡ J.Refused n place → place ≤ 32768
-    place-within n place e = let q : place ≤ length b = refused-within (strict 103) b n place (refuses given b s j shows n place e) in omega arith
-
--- A SCRATCH OF ZEROS is what a judgement asks for
-pub blank-scratch : (length {A = ℕ} (replicate 2960 0) ≡ 2960) × (replicate {A = ℕ} 2960 0 ≡ filled 0 2960 []) × Ruled given
-blank-scratch = (length-replicate {A = ℕ} 2960 0, sym (filled-nil 0 2960), record { low = omega arith; high = omega arith })
+    place-within n place e =
+        let q : readResult 103 b (zeros 3856) .place ≡ place = ap (λ (x : ReadResult). x .place) (lines-told b (zeros 3856) long-enough h (Refused n place) (refuses b s j judges n place e)) in
+        omega (arith, result-placed 103 b (zeros 3856))

@@ -1,4 +1,5 @@
 -- The answer of a reading, as the definitions have it: document 01, "Refusal numbers". Assumes nothing.
+use mathlib.Core.Path.{_≡_}
 use mathlib.Core.List.{List}
 use lib.IntN.{ℤ}
 use Rattle.format.specs.Table.{ReadResult, readAnswer}
@@ -9,3 +10,8 @@ use Rattle.reader.specs.declared.Answer.the-variants as A
 abbrev pub shownRead : Answer → List ℤ → ReadResult
 shownRead A.Accepted t = readAnswer 0 0 t
 shownRead (A.Refused n place) t = readAnswer n place t
+
+-- a refusal's number is not 0, which says "accepted": the three parts of an answer shown tell whether it is a refusal
+abbrev pub Told : Answer → Type 0
+Told A.Accepted = Unit {0}
+Told (A.Refused n place) = n ≡ 0 → ⊥

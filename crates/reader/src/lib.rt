@@ -1,18 +1,16 @@
-// Reading one block into a table: document 01, "Lines and labels", "Rows", "Refusal numbers".
-mod block; // block.rt: the lines of a block in turn
-mod line; // line.rt: one line of a block
-mod rules; // rules.rt: what a reading goes by
-mod seen; // seen.rt: the labels seen so far and their order
-mod values; // values.rt: the values that stand on their label line
-
+// Reading one block into a table: document 01, "The structure table", "Refusal numbers".
 ghost use mathlib.Core.Path.{_≡_};
+ghost use mathlib.Core.List.{_++_};
 ghost use Prim.Native.Nat.{_≤_};
-ghost use Rattle.format.specs.Table.{readResult};
+ghost use lib.ListN.{length, drop};
+ghost use Rattle.format.specs.Table.{zeros, readResult};
 ghost use Rattle.format.specs.Walking.{packed, checkOf};
-ghost use Rattle.reader.specs.Answers.{shownRead};
-use crate::block::Judged;
-use crate::rules::Rules;
+ghost use Rattle.reader.specs.Answers.{shownRead, Told};
+ghost use Rattle.reader.specs.declared.Answer.the-variants.{Refused};
 use format::Table;
+use judgement::Judged;
+use judgement::rules::Rules;
+use sorted::scratch::Scratch;
 
 // "Accepted is 0, place 0", or the refusal's number and place.
 pub enum Answer {
@@ -20,23 +18,31 @@ pub enum Answer {
     Refused(u32, usize),
 }
 
+// "Refusals 2 to 17 zero the 3,856 numbers", "those beyond are untouched".
+fn refuse(number: u32, place: usize, table: &mut [i32]) -> Answer
+    ensures { λ r. ⌜ (r ≡ Refused number place) × (3856 ≤ length (now (table .entry)) → now (table .exit) ≡ zeros 3856 ++ drop 3856 (now (table .entry))) ⌝ }
+{
+    clearing::clear(table);
+    Answer::Refused(number, place)
+}
+
 // Reads one block into a lent table: 1 "table shorter than 3,856; untouched", 2 "block over 32,768 bytes"; "Refusals 2 to 17 zero the 3,856 numbers", "those beyond are
 // untouched".
 pub fn read(block: &[u8], table: &mut [i32]) -> Answer
-    ensures { λ r. ⌜ shownRead r (now (table .exit)) ≡ readResult 103 (now (block .entry)) (now (table .entry)) ⌝ }
+    ensures result { λ r. ⌜ shownRead r (now (table .exit)) ≡ readResult 103 (now (block .entry)) (now (table .entry)) ⌝ }
+    ensures told { λ r. ⌜ Told r ⌝ }
 {
     if table.len() < Table::SIZE {
         return Answer::Refused(1, 0);
     }
     if Table::BLOCK < block.len() {
-        clearing::clear(table);
-        return Answer::Refused(2, 0);
+        return refuse(2, 0, table);
     }
-    let mut scratch = [0u32; 2960];
-    let judged = block::judge(
+    let mut scratch = [0u32; Scratch::SIZE];
+    let judged = judgement::judge(
         block,
         Rules {
-            last: 103,
+            last: Rules::ELEMENTS,
             totals: true,
         },
         &mut scratch,
@@ -46,10 +52,7 @@ pub fn read(block: &[u8], table: &mut [i32]) -> Answer
             publish::publish(block, p, &scratch, table);
             Answer::Accepted
         }
-        Judged::Refused(number, place) => {
-            clearing::clear(table);
-            Answer::Refused(number, place)
-        }
+        Judged::Refused(number, place) => refuse(number, place, table),
     }
 }
 
@@ -68,11 +71,11 @@ pub fn check(block: &[u8]) -> u64
     if Table::BLOCK < block.len() {
         return packed_answer(2, 0);
     }
-    let mut scratch = [0u32; 2960];
-    let judged = block::judge(
+    let mut scratch = [0u32; Scratch::SIZE];
+    let judged = judgement::judge(
         block,
         Rules {
-            last: 103,
+            last: Rules::ELEMENTS,
             totals: true,
         },
         &mut scratch,

@@ -9,9 +9,10 @@ use lib.IntN.{ℤ, pos, negsuc, natAbs}
 use Rattle.lists.proofs.Bools.{torn}
 use Rattle.format.specs.Bytes.{Bytes}
 use Rattle.format.specs.Structure.{isotopeOf}
-use Rattle.format.specs.Table.{cell}
+use Rattle.format.specs.Table.{atomPlace, cell}
 use Rattle.format.specs.Writing.{digits, unlessZero, behind, line, spelt, printSym, atomWords, signedOf}
 use Rattle.cells.specs.Signs.{negative}
+use Rattle.format.proofs.PlaceLaws.{atom-place}
 use Rattle.printing.specs.Printing.{Laid, spaced}
 use Rattle.rowform.specs.Lines.{markWords, markLine, atomNo, atomLine}
 use Rattle.printing.proofs.PrintLaws.{laid-then, laid-as, spaced-none, spaced-more}
@@ -36,13 +37,14 @@ ahead-double n l h = ap (λ w. w ++ (32 ∷ [])) (digits-double n l h)
 
 -- AN ATOM
 module _ {b b₁ b₂ b₃ b₄ : Bytes} {at r₁ r₂ r₃ r₄ : ℕ} where
-  pub atom-laid : (t : List ℤ) (i e m h : ℕ) → e ≡ cell t (16 + 5 * i) → m ≡ cell t (16 + 5 * i + 1) → h ≡ cell t (16 + 5 * i + 2)
+  pub atom-laid : (t : List ℤ) (i place e m h : ℕ) → i < 256 → place ≡ atomPlace i → e ≡ cell t place → m ≡ cell t (place + 1) → h ≡ cell t (place + 2)
       → Laid b at (digits (i + 1) ++ (32 ∷ [])) b₁ r₁ → Laid b₁ r₁ (printSym (spelt (isotopeOf e m))) b₂ r₂ → Laid b₂ r₂ (spaced (unlessZero h (digits h))) b₃ r₃ → Laid b₃ r₃ (10 ∷ []) b₄ r₄
       → Laid b at (atomLine t i) b₄ r₄
   unfolding atomWords
-  atom-laid t i e m h p q r l₁ l₂ l₃ l₄ =
-      let s : printSym (spelt (isotopeOf e m)) ≡ printSym (spelt (atomNo t i .kind)) = ap₂ (λ x y. printSym (spelt (isotopeOf x y))) p q in
-      let u : spaced (unlessZero h (digits h)) ≡ spaced (unlessZero (atomNo t i .hydrogens) (digits (atomNo t i .hydrogens))) = ap (λ x. spaced (unlessZero x (digits x))) r in
+  atom-laid t i place e m h low there p q r l₁ l₂ l₃ l₄ =
+      let a : place ≡ 16 + 5 * i = there ∙ atom-place i low in
+      let s : printSym (spelt (isotopeOf e m)) ≡ printSym (spelt (atomNo t i .kind)) = ap₂ (λ x y. printSym (spelt (isotopeOf x y))) (p ∙ ap (cell t) a) (q ∙ ap (λ n. cell t (n + 1)) a) in
+      let u : spaced (unlessZero h (digits h)) ≡ spaced (unlessZero (atomNo t i .hydrogens) (digits (atomNo t i .hydrogens))) = ap (λ x. spaced (unlessZero x (digits x))) (r ∙ ap (λ n. cell t (n + 2)) a) in
       laid-as
       (append-assoc (digits (i + 1)) (32 ∷ []) (printSym (spelt (atomNo t i .kind)) ++ (spaced (unlessZero (atomNo t i .hydrogens) (digits (atomNo t i .hydrogens))) ++ (10 ∷ [])))
       ∙ ap (λ v. digits (i + 1) ++ v) (ap (λ v. 32 ∷ v) (sym (append-assoc (printSym (spelt (atomNo t i .kind))) (spaced (unlessZero (atomNo t i .hydrogens) (digits (atomNo t i .hydrogens)))) (10 ∷ []))) ∙ sym (ap (λ v. v ++ (10 ∷ [])) (spaced-more (printSym (spelt (atomNo t i .kind))) (unlessZero (atomNo t i .hydrogens) (digits (atomNo t i .hydrogens))))))

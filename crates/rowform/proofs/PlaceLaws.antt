@@ -11,8 +11,9 @@ use lib.Seq.{drop-cons, drop-drop, getD-drop, getD-take, length-take-le}
 use Rattle.lists.proofs.RegionLaws.{rows-length, rows-at}
 use Rattle.format.specs.Labels.{Bonds, Charges, Radicals, Centres, Pairs}
 use Rattle.format.specs.Rows.{Row, row}
-use Rattle.format.specs.Structure.{rowsOf}
-use Rattle.format.specs.Table.{cell, countAt, markedAt, bondAt, membersAt, spreadAt, atomRecords, decode}
+use Rattle.format.specs.Structure.{rowsOf, most}
+use Rattle.format.specs.Table.{base, width, rowPlace, atomPlace, cell, countAt, markedAt, bondAt, membersAt, spreadAt, atomRecords, decode}
+use Rattle.format.proofs.PlaceLaws.{atom-place, row-place}
 use Rattle.rowform.specs.Lines.{rowNo}
 
 -- A COUNT
@@ -51,29 +52,33 @@ module _ (t : List ℤ) where
   unfolding rowsOf decode
   pairs-many = rows-length 4 (markedAt 2) (countAt t 5 128) (drop 3344 t)
 
-module _ (t : List ℤ) (long : 3856 ≤ length t) (i : ℕ) where
-  pub bond-is : i < length (rowsOf Bonds (decode t)) → rowNo Bonds t i ≡ row (cell t (1296 + 3 * i) ∷ cell t (1296 + 3 * i + 1) ∷ []) (getD t (1296 + 3 * i + 2) (pos 0)) 0
-  unfolding rowNo rowsOf decode
-  bond-is h =
+-- a row by its place p
+module _ (t : List ℤ) (long : 3856 ≤ length t) (i p : ℕ) where
+  pub bond-is : p ≡ rowPlace Bonds i → i < length (rowsOf Bonds (decode t)) → rowNo Bonds t i ≡ row (cell t p ∷ cell t (p + 1) ∷ []) (getD t (p + 2) (pos 0)) 0
+  unfolding rowNo rowsOf decode base width most
+  bond-is e h =
       let k : i < countAt t 1 512 = omega (arith, h, bonds-many t) in
-      rows-at 3 bondAt (row [] (pos 0) 0) (countAt t 1 512) (drop 1296 t) i k ∙ ap bondAt (drop-drop (3 * i) 1296 t)
-      ∙ ap₂ (λ ns v. row ns v 0) (cells-two t (1296 + 3 * i) (omega (arith, count-le t 1 512))) (getD-drop (1296 + 3 * i) t 2 (pos 0))
+      let q : 1296 + 3 * i ≡ p = sym (e ∙ row-place Bonds i (omega (arith, count-le t 1 512))) in
+      rows-at 3 bondAt (row [] (pos 0) 0) (countAt t 1 512) (drop 1296 t) i k ∙ ap bondAt (drop-drop (3 * i) 1296 t ∙ ap (λ n. drop n t) q)
+      ∙ ap₂ (λ ns v. row ns v 0) (cells-two t p (omega (arith, count-le t 1 512))) (getD-drop p t 2 (pos 0))
 
-  pub centre-is : i < length (rowsOf Centres (decode t)) → rowNo Centres t i ≡ row (cell t (2960 + 3 * i) ∷ []) (getD t (2960 + 3 * i + 1) (pos 0)) (cell t (2960 + 3 * i + 2))
-  unfolding rowNo rowsOf decode
-  centre-is h =
+  pub centre-is : p ≡ rowPlace Centres i → i < length (rowsOf Centres (decode t)) → rowNo Centres t i ≡ row (cell t p ∷ []) (getD t (p + 1) (pos 0)) (cell t (p + 2))
+  unfolding rowNo rowsOf decode base width most
+  centre-is e h =
       let k : i < countAt t 4 128 = omega (arith, h, centres-many t) in
-      rows-at 3 (markedAt 1) (row [] (pos 0) 0) (countAt t 4 128) (drop 2960 t) i k ∙ ap (markedAt 1) (drop-drop (3 * i) 2960 t)
-      ∙ ap₂ (λ ns v. row ns v (cell (drop (2960 + 3 * i) t) 2)) (cells-one t (2960 + 3 * i) (omega (arith, count-le t 4 128))) (getD-drop (2960 + 3 * i) t 1 (pos 0))
-      ∙ ap (λ z. row (cell t (2960 + 3 * i) ∷ []) (getD t (2960 + 3 * i + 1) (pos 0)) (natAbs z)) (getD-drop (2960 + 3 * i) t 2 (pos 0))
+      let q : 2960 + 3 * i ≡ p = sym (e ∙ row-place Centres i (omega (arith, count-le t 4 128))) in
+      rows-at 3 (markedAt 1) (row [] (pos 0) 0) (countAt t 4 128) (drop 2960 t) i k ∙ ap (markedAt 1) (drop-drop (3 * i) 2960 t ∙ ap (λ n. drop n t) q)
+      ∙ ap₂ (λ ns v. row ns v (cell (drop p t) 2)) (cells-one t p (omega (arith, count-le t 4 128))) (getD-drop p t 1 (pos 0))
+      ∙ ap (λ z. row (cell t p ∷ []) (getD t (p + 1) (pos 0)) (natAbs z)) (getD-drop p t 2 (pos 0))
 
-  pub pair-is : i < length (rowsOf Pairs (decode t)) → rowNo Pairs t i ≡ row (cell t (3344 + 4 * i) ∷ cell t (3344 + 4 * i + 1) ∷ []) (getD t (3344 + 4 * i + 2) (pos 0)) (cell t (3344 + 4 * i + 3))
-  unfolding rowNo rowsOf decode
-  pair-is h =
+  pub pair-is : p ≡ rowPlace Pairs i → i < length (rowsOf Pairs (decode t)) → rowNo Pairs t i ≡ row (cell t p ∷ cell t (p + 1) ∷ []) (getD t (p + 2) (pos 0)) (cell t (p + 3))
+  unfolding rowNo rowsOf decode base width most
+  pair-is e h =
       let k : i < countAt t 5 128 = omega (arith, h, pairs-many t) in
-      rows-at 4 (markedAt 2) (row [] (pos 0) 0) (countAt t 5 128) (drop 3344 t) i k ∙ ap (markedAt 2) (drop-drop (4 * i) 3344 t)
-      ∙ ap₂ (λ ns v. row ns v (cell (drop (3344 + 4 * i) t) 3)) (cells-two t (3344 + 4 * i) (omega (arith, count-le t 5 128))) (getD-drop (3344 + 4 * i) t 2 (pos 0))
-      ∙ ap (λ z. row (cell t (3344 + 4 * i) ∷ cell t (3344 + 4 * i + 1) ∷ []) (getD t (3344 + 4 * i + 2) (pos 0)) (natAbs z)) (getD-drop (3344 + 4 * i) t 3 (pos 0))
+      let q : 3344 + 4 * i ≡ p = sym (e ∙ row-place Pairs i (omega (arith, count-le t 5 128))) in
+      rows-at 4 (markedAt 2) (row [] (pos 0) 0) (countAt t 5 128) (drop 3344 t) i k ∙ ap (markedAt 2) (drop-drop (4 * i) 3344 t ∙ ap (λ n. drop n t) q)
+      ∙ ap₂ (λ ns v. row ns v (cell (drop p t) 3)) (cells-two t p (omega (arith, count-le t 5 128))) (getD-drop p t 2 (pos 0))
+      ∙ ap (λ z. row (cell t p ∷ cell t (p + 1) ∷ []) (getD t (p + 2) (pos 0)) (natAbs z)) (getD-drop p t 3 (pos 0))
 
 -- THE ROWS OF MEMBERS
 spread-long : (p j : ℕ) (rs : List (List ℤ)) (vs : List ℤ) → length (spreadAt p j rs vs) ≡ length vs
@@ -107,14 +112,18 @@ module _ (t : List ℤ) (long : 3856 ≤ length t) where
   unfolding rowsOf decode
   radicals-many = spread-long 4 1 (atomRecords t) (take (countAt t 3 64) (drop 2896 t)) ∙ length-take-le (countAt t 3 64) (drop 2896 t) (omega (arith, length-drop 2896 t, count-le t 3 64))
 
-module _ (t : List ℤ) (i : ℕ) where
-  pub charge-is : i < length (rowsOf Charges (decode t)) → rowNo Charges t i ≡ row (membersAt 3 (i + 1) 1 (atomRecords t)) (getD t (2832 + i) (pos 0)) 0
-  unfolding rowNo rowsOf decode
-  charge-is h = spread-no t 3 2832 (countAt t 2 64) i (atomRecords t) (row [] (pos 0) 0) h
+module _ (t : List ℤ) (long : 3856 ≤ length t) (i p : ℕ) where
+  pub charge-is : p ≡ rowPlace Charges i → i < length (rowsOf Charges (decode t)) → rowNo Charges t i ≡ row (membersAt 3 (i + 1) 1 (atomRecords t)) (getD t p (pos 0)) 0
+  unfolding rowNo rowsOf decode base width most
+  charge-is e h =
+      let q : 2832 + i ≡ p = omega (arith, e, row-place Charges i (omega (arith, h, charges-many t long, count-le t 2 64))) in
+      spread-no t 3 2832 (countAt t 2 64) i (atomRecords t) (row [] (pos 0) 0) h ∙ ap (λ n. row (membersAt 3 (i + 1) 1 (atomRecords t)) (getD t n (pos 0)) 0) q
 
-  pub radical-is : i < length (rowsOf Radicals (decode t)) → rowNo Radicals t i ≡ row (membersAt 4 (i + 1) 1 (atomRecords t)) (getD t (2896 + i) (pos 0)) 0
-  unfolding rowNo rowsOf decode
-  radical-is h = spread-no t 4 2896 (countAt t 3 64) i (atomRecords t) (row [] (pos 0) 0) h
+  pub radical-is : p ≡ rowPlace Radicals i → i < length (rowsOf Radicals (decode t)) → rowNo Radicals t i ≡ row (membersAt 4 (i + 1) 1 (atomRecords t)) (getD t p (pos 0)) 0
+  unfolding rowNo rowsOf decode base width most
+  radical-is e h =
+      let q : 2896 + i ≡ p = omega (arith, e, row-place Radicals i (omega (arith, h, radicals-many t long, count-le t 3 64))) in
+      spread-no t 4 2896 (countAt t 3 64) i (atomRecords t) (row [] (pos 0) 0) h ∙ ap (λ n. row (membersAt 4 (i + 1) 1 (atomRecords t)) (getD t n (pos 0)) 0) q
 
 -- THE ATOMS' RECORDS
 pub records-many : (t : List ℤ) → length (atomRecords t) ≡ countAt t 0 256
@@ -127,3 +136,7 @@ record-cell t i k h g =
     let m : i < countAt t 0 256 = omega (arith, h, (records-many t)) in
     ap (λ r. cell r k) (rows-at 5 (take 5) [] (countAt t 0 256) (drop 16 t) i m ∙ ap (take 5) (drop-drop (5 * i) 16 t))
     ∙ ap natAbs (getD-take 5 (drop (16 + 5 * i) t) k (pos 0) g ∙ getD-drop (16 + 5 * i) t k (pos 0))
+
+-- at the place that the table's type answers
+pub record-read : (t : List ℤ) (i p k : ℕ) → p ≡ atomPlace i → i < length (atomRecords t) → k < 5 → cell (getD (atomRecords t) i []) k ≡ cell t (p + k)
+record-read t i p k e h g = record-cell t i k h g ∙ ap (λ n. cell t (n + k)) (sym (e ∙ atom-place i (omega (arith, h, records-many t, count-le t 0 256))))

@@ -70,7 +70,7 @@ pub fn put_atom(buffer: &mut [u8], at: usize, table: &[i32], i: usize) -> usize
     if Table::ATOMS <= i {
         return at;
     }
-    let place = Table::FIRST_ATOM + 5 * i;
+    let place = Table::atom(i);
     let element = cell(table, place);
     let mass = cell(table, place + 1);
     let hydrogens = cell(table, place + 2);

@@ -19,6 +19,9 @@ use printing::put_behind;
 use printing::put_number;
 use printing::put_three;
 
+// How many bytes there are.
+const BYTES: u32 = 256;
+
 // A letter and a group behind what stands on the line, and the line's end: "group 0 left out". A group is a byte.
 fn put_mark(buffer: &mut [u8], at: usize, letter: u8, group: u32) -> usize
     ensures { λ r. ⌜ (group < 256 → Laid (now (buffer .entry)) at (spaced (markWords letter group) ++ (10 ∷ [])) (now (buffer .exit)) r) ⌝ }
@@ -27,7 +30,7 @@ fn put_mark(buffer: &mut [u8], at: usize, letter: u8, group: u32) -> usize
         return put_three(buffer, at, 32, letter, 10);
     }
     let mark = printing::put_pair(buffer, at, 32, letter);
-    put_three(buffer, mark, 32, (group % 256) as u8, 10)
+    put_three(buffer, mark, 32, (group % BYTES) as u8, 10)
 }
 
 // The line of one atom, a letter and a group.
@@ -63,7 +66,7 @@ pub fn put_bond(buffer: &mut [u8], at: usize, table: &[i32], i: usize) -> usize
     requires { ⌜ (i < 512) × (3856 ≤ length (now table)) ⌝ }
     ensures { λ r. ⌜ RowLaid Bonds (now (table .entry)) i (now (buffer .entry)) at (now (buffer .exit)) r ⌝ }
 {
-    let place = Table::FIRST_BOND + 3 * i;
+    let place = Table::bond(i);
     let low = cell(table, place);
     let high = cell(table, place + 1);
     let kind = letter_of(b"-SDTQA", cell(table, place + 2));
@@ -75,7 +78,7 @@ pub fn put_centre(buffer: &mut [u8], at: usize, table: &[i32], i: usize) -> usiz
     requires { ⌜ (i < 512) × (3856 ≤ length (now table)) ⌝ }
     ensures { λ r. ⌜ RowLaid Centres (now (table .entry)) i (now (buffer .entry)) at (now (buffer .exit)) r ⌝ }
 {
-    let place = Table::FIRST_CENTRE + 3 * i;
+    let place = Table::centre(i);
     let atom = cell(table, place);
     let side = letter_of(b"0PM", cell(table, place + 1));
     let group = cell(table, place + 2);
@@ -87,7 +90,7 @@ pub fn put_pair(buffer: &mut [u8], at: usize, table: &[i32], i: usize) -> usize
     requires { ⌜ (i < 512) × (3856 ≤ length (now table)) ⌝ }
     ensures { λ r. ⌜ RowLaid Pairs (now (table .entry)) i (now (buffer .entry)) at (now (buffer .exit)) r ⌝ }
 {
-    let place = Table::FIRST_PAIR + 4 * i;
+    let place = Table::pair(i);
     let low = cell(table, place);
     let high = cell(table, place + 1);
     let side = letter_of(b"0PM", cell(table, place + 2));
@@ -125,7 +128,7 @@ fn put_members(buffer: &mut [u8], at: usize, table: &[i32], which: usize, j: u32
             buffer,
             place,
             table,
-            Table::FIRST_ATOM + 5 * i + which,
+            Table::atom(i) + which,
             j,
             i as u32 + 1,
         );
@@ -152,7 +155,7 @@ pub fn put_charge(buffer: &mut [u8], at: usize, table: &[i32], i: usize) -> usiz
     requires { ⌜ (i < 512) × (3856 ≤ length (now table)) ⌝ }
     ensures { λ r. ⌜ RowLaid Charges (now (table .entry)) i (now (buffer .entry)) at (now (buffer .exit)) r ⌝ }
 {
-    let value = put_signed(buffer, at, table, Table::FIRST_CHARGE + i);
+    let value = put_signed(buffer, at, table, Table::charge(i));
     let end = put_members(buffer, value, table, 3, i as u32 + 1);
     put(buffer, end, 10)
 }
@@ -162,7 +165,7 @@ pub fn put_radical(buffer: &mut [u8], at: usize, table: &[i32], i: usize) -> usi
     requires { ⌜ (i < 512) × (3856 ≤ length (now table)) ⌝ }
     ensures { λ r. ⌜ RowLaid Radicals (now (table .entry)) i (now (buffer .entry)) at (now (buffer .exit)) r ⌝ }
 {
-    let value = put_number(buffer, at, cell(table, Table::FIRST_RADICAL + i));
+    let value = put_number(buffer, at, cell(table, Table::radical(i)));
     let end = put_members(buffer, value, table, 4, i as u32 + 1);
     put(buffer, end, 10)
 }

@@ -1,4 +1,4 @@
-// Rows: one reader a row kind, a slice in, its values or no shape of one out. No table here.
+// Rows: one reader a row kind, a slice in, its values or a refusal with its number out. No table here.
 pub mod atom; // atom.rt: a row of ATOMLIST
 pub mod bond; // bond.rt: a row of BONDLIST
 pub mod centre; // centre.rt: a row of STEREOCENTER

@@ -12,6 +12,9 @@ use numbers::Numeral;
 use numbers::number;
 use symbols::groups::group;
 
+// The refusal of every row kind: 9, "row of the wrong shape".
+pub const WRONG_SHAPE: u32 = 9;
+
 // An atom's number and where its field ends, or no shape of one.
 pub enum AtomAt {
     Atom(u32, usize),

@@ -22,11 +22,16 @@ use Rattle.format.specs.Structure.{most, ranged}
 use Rattle.format.specs.Reading.{ordered}
 use Rattle.fields.specs.NextFields.{NextField}
 use Rattle.fields.specs.declared.Field.{Field}
-use Rattle.sorted.specs.Steps.{kept, refused, joinAfter, rowAfter, rowStep}
-use Rattle.sorted.specs.Regions.{payloadOf}
-use Rattle.sorted.specs.Keyed.{keyed, drops, JoinShows, RowShows, LineShows}
+use Rattle.rows.specs.Answers.{values, refused as rowRefused, answered}
+use Rattle.rows.proofs.AnswerLaws.{values-some, refused-none}
+use Rattle.sorted.specs.Steps.{After, kept, refused, joinAfter, rowAfter, rowStep}
+use Rattle.sorted.specs.Regions.{payloadOf, keyedRegion}
+use Rattle.sorted.specs.Shown.{ShowsAfter, ShowsLine, LineWithin}
+use Rattle.sorted.specs.Keyed.{keyed, drops, JoinShows, KeptWithin, RowShows, onLine, LineShows}
 use Rattle.sorted.specs.declared.after.RowAfter.{RowAfter}
 use Rattle.sorted.specs.declared.after.RowAfter.the-variants.{Kept, Stop}
+use Rattle.sorted.specs.declared.after.LineAfter.{LineAfter}
+use Rattle.sorted.specs.declared.after.LineAfter.the-variants as L
 use Rattle.sorted.proofs.ShapeLaws.{row-shaped, bond-ranged, centre-ranged, pair-ranged}
 use Rattle.sorted.proofs.FitLaws.{ordered-fits}
 use Rattle.sorted.proofs.KeyLaws.{keyFrom}
@@ -128,19 +133,42 @@ module _ (l : ListOf) (n : ℕ) (rs : List Row) where
   unfolding rowAfter
   row-none = refl
 
+-- A LINE'S COUNT is within the limit
+pub line-within : (n limit : ℕ) → n ≤ limit → LineWithin limit (L.Kept n)
+line-within n limit h c e = let q : n ≡ c = cc in omega arith
+
+pub refused-within : (n place limit : ℕ) → LineWithin limit (L.Refused n place)
+refused-within n place limit c e = let z : _≡_ {A = ℕ} 0 1 = cc in absurd (omega arith)
+
+-- A ROW'S ANSWER handed on as its line's
+module _ (place : ℕ) (a : RowAfter) (y : LineAfter) (o : y ≡ onLine place a) where
+  pub handed-within : (limit : ℕ) → KeptWithin limit a → LineWithin limit y
+  handed-within limit h c e = go a (sym o ∙ e) h
+    where
+      go : (b : RowAfter) → onLine place b ≡ L.Kept c → KeptWithin limit b → c ≤ limit
+      go (Kept n) q k = k c (let z : n ≡ c = cc in ap Kept z)
+      go (Stop n) q k = refused-within n place limit c q
+
+  pub handed-shows : {A : Type 0} (shown : List A → List ℕ) (u : List ℕ) (next : After A) → ShowsAfter shown u a next → ShowsLine shown place u y next
+  handed-shows shown u (kept rows) s = (o ∙ ap (onLine place) (s .0), s .1)
+  handed-shows shown u (refused n) s = o ∙ ap (onLine place) s
+
 -- A LINE: no field, no shape, a row
-module _ (l : ListOf) (n count : ℕ) (line t : List ℕ) where
-  pub shows-blank : isNil (fields line) ≡ true → LineShows l n count line t t (Kept count)
-  shows-blank e rs len fi tt = rw (ap (rowStep l n rs) (nil-is (fields line) e) ∙ step-nil l n rs) (ap Kept (sym len), tt)
+module _ (l : ListOf) (n count : ℕ) (line : List ℕ) (place : ℕ) (t : List ℕ) where
+  pub shows-blank : isNil (fields line) ≡ true → LineShows l n count line place t t (L.Kept count)
+  shows-blank e rs len fi tt = rw (ap (rowStep l n rs) (nil-is (fields line) e) ∙ step-nil l n rs) (ap L.Kept (sym len), tt)
 
   module _ (x : isNil (fields line) ≡ false) (u : List ℕ) where
-    pub shows-unshaped : rowShape l (fields line) ≡ none → LineShows l n count line t u (Stop 9)
-    shows-unshaped e rs len fi tt = rw (step-some l n rs (fields line) x ∙ ap (rowAfter l n rs) e ∙ row-none l n rs) refl
+    pub shows-refused : (number : ℕ) → rowRefused number ≡ answered (rowShape l (fields line)) → LineShows l n count line place t u (L.Refused number place)
+    shows-refused number e rs len fi tt =
+        let q = refused-none (rowShape l (fields line)) number e in
+        rw (step-some l n rs (fields line) x ∙ ap (rowAfter l n rs) (q .1) ∙ row-none l n rs) (ap (λ (k : ℕ). L.Refused k place) (q .0))
 
-    pub shows-row : (limit payload : ℕ) (ns : List ℕ) (dropping : Bool) (a : RowAfter) (r : Row) → keyed l ≡ true → most l ≡ limit → drops l ≡ dropping → rowShape l (fields line) ≡ some r → r .atoms ≡ ns
-        → payloadOf r ≡ payload → RowShows limit ns payload dropping n count t u a → LineShows l n count line t u a
-    shows-row limit payload ns dropping a r k m d e ns≡ po j rs len fi tt =
-        rw (step-some l n rs (fields line) x ∙ ap (rowAfter l n rs) e) (j l (fields line) rs r k m d e ns≡ po len fi tt)
+    pub shows-row : (limit payload : ℕ) (ns : List ℕ) (dropping : Bool) (a : RowAfter) (y : LineAfter) (r : Row) → keyed l ≡ true → most l ≡ limit → drops l ≡ dropping
+        → values r ≡ answered (rowShape l (fields line)) → r .atoms ≡ ns → payloadOf r ≡ payload → y ≡ onLine place a → RowShows limit ns payload dropping n count t u a → LineShows l n count line place t u y
+    shows-row limit payload ns dropping a y r k m d e ns≡ po o j rs len fi tt =
+        let q : rowShape l (fields line) ≡ some r = values-some (rowShape l (fields line)) r e in
+        rw (step-some l n rs (fields line) x ∙ ap (rowAfter l n rs) q) (handed-shows place a y o (keyedRegion l) u (rowAfter l n rs (some r)) (j l (fields line) rs r k m d q ns≡ po len fi tt))
 
 -- WHAT THE CODE'S TESTS TELL
 le-ne-lt : (a b : ℕ) → a ≤ b → (a ≡ b → ⊥) → a < b

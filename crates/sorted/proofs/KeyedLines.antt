@@ -1,4 +1,4 @@
--- A line of each of the three lists, from what the row's reader answers: no shape, or the values that the row has. Document 01, "Rows", BONDLIST, STEREOCENTER,
+-- A line of each of the three lists, from what the row's reader answers: a refusal, or the values that the row has. Document 01, "Rows", BONDLIST, STEREOCENTER,
 -- STEREOPAIR. Assumes nothing.
 use Prim.Native.Nat.{ℕ, _+_, _*_, _<_}
 use mathlib.Core.Path.{_≡_, refl, sym, ap, _∙_, subst}
@@ -6,6 +6,7 @@ use mathlib.Core.Bool.{true, false}
 use mathlib.Core.Option.{Option}
 use mathlib.Core.List.{List, [], _∷_}
 use native.Mathlib.Nat.{add-zero}
+use native.Mathlib.Omega.{arith}
 use lib.IntN.{pos}
 use Rattle.lists.specs.Lists.{isNil}
 use Rattle.format.specs.Bytes.{fields}
@@ -19,10 +20,21 @@ use Rattle.rows.specs.declared.centre.CentreRow.{CentreRow}
 use Rattle.rows.specs.declared.centre.CentreRow.the-variants as C
 use Rattle.rows.specs.declared.pair.PairRow.{PairRow}
 use Rattle.rows.specs.declared.pair.PairRow.the-variants as P
-use Rattle.sorted.specs.Keyed.{RowShows, LineShows}
+use Rattle.sorted.specs.Keyed.{RowShows, onLine, LineShows}
 use Rattle.sorted.specs.declared.after.RowAfter.{RowAfter}
-use Rattle.sorted.specs.declared.after.RowAfter.the-variants.{Stop}
-use Rattle.sorted.proofs.KeyedLaws.{shows-unshaped, shows-row}
+use Rattle.sorted.specs.declared.after.LineAfter.{LineAfter}
+use Rattle.sorted.specs.declared.after.LineAfter.the-variants as L
+use Rattle.sorted.proofs.KeyedLaws.{shows-refused, shows-row}
+
+-- A REFUSAL has no values
+pub bond-torn : {X : Type 0} (n a b v : ℕ) → B.Refused n ≡ B.Values a b v → X
+bond-torn n a b v e = let z : _≡_ {A = ℕ} 0 1 = cc in absurd (omega arith)
+
+pub centre-torn : {X : Type 0} (n a v g : ℕ) → C.Refused n ≡ C.Values a v g → X
+centre-torn n a v g e = let z : _≡_ {A = ℕ} 0 1 = cc in absurd (omega arith)
+
+pub pair-torn : {X : Type 0} (n a b v g : ℕ) → P.Refused n ≡ P.Values a b v g → X
+pair-torn n a b v g e = let z : _≡_ {A = ℕ} 0 1 = cc in absurd (omega arith)
 
 -- THE VALUES of a row are small
 module _ (asked : Option Row) where
@@ -36,27 +48,30 @@ module _ (asked : Option Row) where
   pair-small r s a b v g e = let q : (a < 1000000) × (b < 1000000) × (v < 3) × (g < 123) = subst PairSmall e (s .small) in (q .2, q .3)
 
 -- WHAT THE LINE'S ANSWER SHOWS
-module _ (n count : ℕ) (line t u : List ℕ) (x : isNil (fields line) ≡ false) where
+module _ (n count : ℕ) (line : List ℕ) (place : ℕ) (t u : List ℕ) (x : isNil (fields line) ≡ false) where
   module _ (r : BondRow) (s : ShowsBondRow (rowShape Bonds (fields line)) r) where
-    pub bond-wrong : r ≡ B.Wrong → LineShows Bonds n count line t u (Stop 9)
-    bond-wrong e = shows-unshaped Bonds n count line t x u (sym (s .is) ∙ ap bondShown e)
+    pub bond-refused : (number : ℕ) → r ≡ B.Refused number → LineShows Bonds n count line place t u (L.Refused number place)
+    bond-refused number e = shows-refused Bonds n count line place t x u number (sym (ap bondShown e) ∙ s .is)
 
-    pub bond-shows : (a b v : ℕ) → r ≡ B.Values a b v → (y : RowAfter) → RowShows 512 (a ∷ b ∷ []) (256 * v) true n count t u y → LineShows Bonds n count line t u y
+    pub bond-shows : (a b v : ℕ) → r ≡ B.Values a b v → (w : RowAfter) (y : LineAfter) → y ≡ onLine place w → RowShows 512 (a ∷ b ∷ []) (256 * v) true n count t u w → LineShows Bonds n count line place t u y
     unfolding most
-    bond-shows a b v e y j = shows-row Bonds n count line t x u 512 (256 * v) (a ∷ b ∷ []) true y (row (a ∷ b ∷ []) (pos v) 0) refl refl refl (sym (s .is) ∙ ap bondShown e) refl (add-zero (256 * v)) j
+    bond-shows a b v e w y o j =
+        shows-row Bonds n count line place t x u 512 (256 * v) (a ∷ b ∷ []) true w y (row (a ∷ b ∷ []) (pos v) 0) refl refl refl (sym (ap bondShown e) ∙ s .is) refl (add-zero (256 * v)) o j
 
   module _ (r : CentreRow) (s : ShowsCentreRow (rowShape Centres (fields line)) r) where
-    pub centre-wrong : r ≡ C.Wrong → LineShows Centres n count line t u (Stop 9)
-    centre-wrong e = shows-unshaped Centres n count line t x u (sym (s .is) ∙ ap centreShown e)
+    pub centre-refused : (number : ℕ) → r ≡ C.Refused number → LineShows Centres n count line place t u (L.Refused number place)
+    centre-refused number e = shows-refused Centres n count line place t x u number (sym (ap centreShown e) ∙ s .is)
 
-    pub centre-shows : (a v g : ℕ) → r ≡ C.Values a v g → (y : RowAfter) → RowShows 128 (a ∷ []) (256 * v + g) false n count t u y → LineShows Centres n count line t u y
+    pub centre-shows : (a v g : ℕ) → r ≡ C.Values a v g → (w : RowAfter) (y : LineAfter) → y ≡ onLine place w → RowShows 128 (a ∷ []) (256 * v + g) false n count t u w → LineShows Centres n count line place t u y
     unfolding most
-    centre-shows a v g e y j = shows-row Centres n count line t x u 128 (256 * v + g) (a ∷ []) false y (row (a ∷ []) (pos v) g) refl refl refl (sym (s .is) ∙ ap centreShown e) refl refl j
+    centre-shows a v g e w y o j =
+        shows-row Centres n count line place t x u 128 (256 * v + g) (a ∷ []) false w y (row (a ∷ []) (pos v) g) refl refl refl (sym (ap centreShown e) ∙ s .is) refl refl o j
 
   module _ (r : PairRow) (s : ShowsPairRow (rowShape Pairs (fields line)) r) where
-    pub pair-wrong : r ≡ P.Wrong → LineShows Pairs n count line t u (Stop 9)
-    pair-wrong e = shows-unshaped Pairs n count line t x u (sym (s .is) ∙ ap pairShown e)
+    pub pair-refused : (number : ℕ) → r ≡ P.Refused number → LineShows Pairs n count line place t u (L.Refused number place)
+    pair-refused number e = shows-refused Pairs n count line place t x u number (sym (ap pairShown e) ∙ s .is)
 
-    pub pair-shows : (a b v g : ℕ) → r ≡ P.Values a b v g → (y : RowAfter) → RowShows 128 (a ∷ b ∷ []) (256 * v + g) false n count t u y → LineShows Pairs n count line t u y
+    pub pair-shows : (a b v g : ℕ) → r ≡ P.Values a b v g → (w : RowAfter) (y : LineAfter) → y ≡ onLine place w → RowShows 128 (a ∷ b ∷ []) (256 * v + g) false n count t u w → LineShows Pairs n count line place t u y
     unfolding most
-    pair-shows a b v g e y j = shows-row Pairs n count line t x u 128 (256 * v + g) (a ∷ b ∷ []) false y (row (a ∷ b ∷ []) (pos v) g) refl refl refl (sym (s .is) ∙ ap pairShown e) refl refl j
+    pair-shows a b v g e w y o j =
+        shows-row Pairs n count line place t x u 128 (256 * v + g) (a ∷ b ∷ []) false w y (row (a ∷ b ∷ []) (pos v) g) refl refl refl (sym (ap pairShown e) ∙ s .is) refl refl o j

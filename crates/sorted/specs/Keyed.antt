@@ -12,9 +12,11 @@ use Rattle.format.specs.Rows.{Row, rowShape}
 use Rattle.format.specs.Structure.{most, rowOk}
 use Rattle.sorted.specs.Steps.{joinAfter, rowAfter, rowStep}
 use Rattle.sorted.specs.Regions.{keyOf, payloadOf, keyedRegion, Fits}
-use Rattle.sorted.specs.Shown.{ShowsAfter}
+use Rattle.sorted.specs.Shown.{ShowsAfter, ShowsLine}
 use Rattle.sorted.specs.declared.after.RowAfter.{RowAfter}
 use Rattle.sorted.specs.declared.after.RowAfter.the-variants.{Kept, Stop}
+use Rattle.sorted.specs.declared.after.LineAfter.{LineAfter}
+use Rattle.sorted.specs.declared.after.LineAfter.the-variants as L
 
 -- whether a list's rows stand by key; whether one that repeats another is dropped: "The same pair and kind again is dropped"
 abbrev pub keyed : ListOf → Bool
@@ -56,16 +58,18 @@ KeptWithin limit a = (c : ℕ) → a ≡ Kept c → c ≤ limit
 abbrev pub StopLeaves : (before after : List ℕ) → RowAfter → Type 0
 StopLeaves before after a = (n : ℕ) → a ≡ Stop n → after ≡ before
 
--- what no reading lends is answered 0, and the region is as it was
-abbrev pub Untouched : (before after : List ℕ) → RowAfter → Type 0
-Untouched before after a = (a ≡ Stop 0) × (after ≡ before)
-
 -- of a row whose values are in hand: of every list by key with that limit, and every row of it with those atoms and that payload that a line can say
 abbrev pub RowShows : (most : ℕ) (ns : List ℕ) (payload : ℕ) (dropping : Bool) (n count : ℕ) (before after : List ℕ) → RowAfter → Type 0
 RowShows limit ns payload dropping n count before after a =
     (l : ListOf) (fs : List Bytes) (rs : List Row) (r : Row) → keyed l ≡ true → most l ≡ limit → drops l ≡ dropping → rowShape l fs ≡ some r → r .atoms ≡ ns → payloadOf r ≡ payload
     → length rs ≡ count → Fits l n rs → before ≡ keyedRegion l rs → ShowsAfter (keyedRegion l) after a (rowAfter l n rs (some r))
 
+-- a row's answer as its line's: a refusal is handed on with the line's place
+abbrev pub onLine : (place : ℕ) → RowAfter → LineAfter
+onLine place (Kept c) = L.Kept c
+onLine place (Stop n) = L.Refused n place
+
 -- of a line
-abbrev pub LineShows : ListOf → (n count : ℕ) (line before after : List ℕ) → RowAfter → Type 0
-LineShows l n count line before after a = (rs : List Row) → length rs ≡ count → Fits l n rs → before ≡ keyedRegion l rs → ShowsAfter (keyedRegion l) after a (rowStep l n rs (fields line))
+abbrev pub LineShows : ListOf → (n count : ℕ) (line : List ℕ) (place : ℕ) (before after : List ℕ) → LineAfter → Type 0
+LineShows l n count line place before after a =
+    (rs : List Row) → length rs ≡ count → Fits l n rs → before ≡ keyedRegion l rs → ShowsLine (keyedRegion l) place after a (rowStep l n rs (fields line))

@@ -1,6 +1,6 @@
 // Lines of BONDLIST, STEREOCENTER and STEREOPAIR: document 01, "Rows". "A row is answered as its values or a refusal with its reason, and the caller of a row goes
-// on only with the values in hand." A letter's value is always in its list's range, so that none of these rows is refused 10. What
-// no reading lends, another length or a count over its limit, is answered 0, and nothing is touched.
+// on only with the values in hand": each reader takes the row's answer apart and hands a refusal on with the line's place. A letter's value is always in its list's
+// range, so that none of these rows is refused 10. What no reading lends, another length or a count over its limit, is answered 0, and nothing is touched.
 ghost use mathlib.Core.Path.{_≡_};
 ghost use mathlib.Core.Bool.{true, false};
 ghost use mathlib.Core.List.{[], _∷_};
@@ -9,8 +9,14 @@ ghost use lib.ListN.{length};
 ghost use Rattle.lists.specs.Lists.{isNil};
 ghost use Rattle.format.specs.Bytes.{within, fields};
 ghost use Rattle.format.specs.Labels.{Bonds, Centres, Pairs};
-ghost use Rattle.sorted.specs.Keyed.{KeptWithin, StopLeaves, Untouched, RowShows, LineShows};
+ghost use Rattle.sorted.specs.Shown.{LineWithin, LineUntouched};
+ghost use Rattle.sorted.specs.Keyed.{KeptWithin, StopLeaves, RowShows, LineShows};
+use crate::after::LineAfter;
 use crate::after::RowAfter;
+use crate::after::on_line;
+use crate::join::join;
+use crate::scratch::Scratch;
+use format::Table;
 use rows::bond::BondRow;
 use rows::centre::CentreRow;
 use rows::pair::PairRow;
@@ -48,7 +54,7 @@ fn one_atom(
     if !is_listed(atom, atoms) {
         return RowAfter::Stop(11);
     }
-    crate::join::join(region, count, most, 1024 * atom, payload, false)
+    join(region, count, most, Scratch::KEY * atom, payload, false)
 }
 
 // A row of two atoms joins its list with the lower atom first, or its refusal: 11 where an atom is not listed, 13 for "an atom with itself".
@@ -76,9 +82,11 @@ fn two_atoms(
         return RowAfter::Stop(13);
     }
     if first < second {
-        return crate::join::join(region, count, most, 1024 * first + second, payload, drops);
+        let key = Scratch::KEY * first + second;
+        return join(region, count, most, key, payload, drops);
     }
-    crate::join::join(region, count, most, 1024 * second + first, payload, drops)
+    let key = Scratch::KEY * second + first;
+    join(region, count, most, key, payload, drops)
 }
 
 // What a bond whose values are in hand leaves of its list, `count` bonds there and `atoms` atoms listed; a refusal leaves the region as it is.
@@ -93,96 +101,151 @@ pub fn bond_joined(
     ensures { λ r. ⌜ (length (now (region .exit)) ≡ length (now (region .entry))) × StopLeaves (now (region .entry)) (now (region .exit)) r × (length (now (region .entry)) ≡ 1024 → count ≤ 512 → atoms ≤ 256 → kind < 6 →
         KeptWithin 512 r × RowShows 512 (first ∷ second ∷ []) (256 * kind) true atoms count (now (region .entry)) (now (region .exit)) r) ⌝ }
 {
-    if region.len() != 1024 {
+    if region.len() != Scratch::BONDS {
         return RowAfter::Stop(0);
     }
-    if 512 < count {
+    if Table::BONDS < count {
         return RowAfter::Stop(0);
     }
-    if 256 < atoms {
+    if Table::ATOMS < atoms {
         return RowAfter::Stop(0);
     }
     if 5 < kind {
         return RowAfter::Stop(0);
     }
-    let payload = 256 * kind;
-    two_atoms(atoms, count, region, 512, first, second, payload, true)
-}
-
-// What a line of BONDLIST leaves of its list, `count` bonds there and `atoms` atoms listed: "two atoms and S, D, T, Q or A". The line is without its comment.
-pub fn bond_line(line: &[u8], atoms: usize, count: usize, region: &mut [u32]) -> RowAfter
-    ensures { λ r. ⌜ (length (now (region .exit)) ≡ length (now (region .entry))) × (length (now (region .entry)) ≡ 1024 → count ≤ 512 → atoms ≤ 256 → KeptWithin 512 r × LineShows Bonds atoms count (now (line .entry)) (now (region .entry)) (now (region .exit)) r)
-        × ((length (now (region .entry)) ≡ 1024 → count ≤ 512 → atoms ≤ 256 → ⊥) → Untouched (now (region .entry)) (now (region .exit)) r) ⌝ }
-{
-    if region.len() != 1024 {
-        return RowAfter::Stop(0);
-    }
-    if 512 < count {
-        return RowAfter::Stop(0);
-    }
-    if 256 < atoms {
-        return RowAfter::Stop(0);
-    }
-    if is_bare(line) {
-        return RowAfter::Kept(count);
-    }
-    let BondRow::Values(first, second, kind) = rows::bond::bond_row(line) else {
-        return RowAfter::Stop(9);
-    };
-    two_atoms(atoms, count, region, 512, first, second, 256 * kind, true)
-}
-
-// What a line of STEREOCENTER leaves of its list: "atom, P or M, optional group `0`, A to Z or a to z".
-pub fn centre_line(line: &[u8], atoms: usize, count: usize, region: &mut [u32]) -> RowAfter
-    ensures { λ r. ⌜ (length (now (region .exit)) ≡ length (now (region .entry))) × (length (now (region .entry)) ≡ 256 → count ≤ 128 → atoms ≤ 256 → KeptWithin 128 r × LineShows Centres atoms count (now (line .entry)) (now (region .entry)) (now (region .exit)) r)
-        × ((length (now (region .entry)) ≡ 256 → count ≤ 128 → atoms ≤ 256 → ⊥) → Untouched (now (region .entry)) (now (region .exit)) r) ⌝ }
-{
-    if region.len() != 256 {
-        return RowAfter::Stop(0);
-    }
-    if 128 < count {
-        return RowAfter::Stop(0);
-    }
-    if 256 < atoms {
-        return RowAfter::Stop(0);
-    }
-    if is_bare(line) {
-        return RowAfter::Kept(count);
-    }
-    let CentreRow::Values(atom, side, group) = rows::centre::centre_row(line) else {
-        return RowAfter::Stop(9);
-    };
-    one_atom(atoms, count, region, 128, atom, 256 * side + group)
-}
-
-// What a line of STEREOPAIR leaves of its list: "two atoms, P, M or 0, optional group".
-pub fn pair_line(line: &[u8], atoms: usize, count: usize, region: &mut [u32]) -> RowAfter
-    ensures { λ r. ⌜ (length (now (region .exit)) ≡ length (now (region .entry))) × (length (now (region .entry)) ≡ 256 → count ≤ 128 → atoms ≤ 256 → KeptWithin 128 r × LineShows Pairs atoms count (now (line .entry)) (now (region .entry)) (now (region .exit)) r)
-        × ((length (now (region .entry)) ≡ 256 → count ≤ 128 → atoms ≤ 256 → ⊥) → Untouched (now (region .entry)) (now (region .exit)) r) ⌝ }
-{
-    if region.len() != 256 {
-        return RowAfter::Stop(0);
-    }
-    if 128 < count {
-        return RowAfter::Stop(0);
-    }
-    if 256 < atoms {
-        return RowAfter::Stop(0);
-    }
-    if is_bare(line) {
-        return RowAfter::Kept(count);
-    }
-    let PairRow::Values(first, second, side, group) = rows::pair::pair_row(line) else {
-        return RowAfter::Stop(9);
-    };
+    let payload = Scratch::PAYLOAD * kind;
     two_atoms(
         atoms,
         count,
         region,
-        128,
+        Table::BONDS,
         first,
         second,
-        256 * side + group,
-        false,
+        payload,
+        true,
     )
+}
+
+// What a line of BONDLIST leaves of its list, `count` bonds there and `atoms` atoms listed: "two atoms and S, D, T, Q or A". The line is without its comment;
+// `place` is where it stands in its block.
+pub fn bond_line(
+    line: &[u8],
+    place: usize,
+    atoms: usize,
+    count: usize,
+    region: &mut [u32],
+) -> LineAfter
+    ensures { λ r. ⌜ (length (now (region .exit)) ≡ length (now (region .entry))) × (length (now (region .entry)) ≡ 1024 → count ≤ 512 → atoms ≤ 256 → LineWithin 512 r × LineShows Bonds atoms count (now (line .entry)) place (now (region .entry)) (now (region .exit)) r)
+        × ((length (now (region .entry)) ≡ 1024 → count ≤ 512 → atoms ≤ 256 → ⊥) → LineUntouched place (now (region .entry)) (now (region .exit)) r) ⌝ }
+{
+    if region.len() != Scratch::BONDS {
+        return LineAfter::Refused(0, place);
+    }
+    if Table::BONDS < count {
+        return LineAfter::Refused(0, place);
+    }
+    if Table::ATOMS < atoms {
+        return LineAfter::Refused(0, place);
+    }
+    if is_bare(line) {
+        return LineAfter::Kept(count);
+    }
+    let row = rows::bond::bond_row(line);
+    let BondRow::Values(first, second, kind) = row else {
+        let BondRow::Refused(reason) = row else {
+            return LineAfter::Refused(0, place);
+        };
+        return LineAfter::Refused(reason, place);
+    };
+    let payload = Scratch::PAYLOAD * kind;
+    let after = two_atoms(
+        atoms,
+        count,
+        region,
+        Table::BONDS,
+        first,
+        second,
+        payload,
+        true,
+    );
+    on_line(after, place)
+}
+
+// What a line of STEREOCENTER leaves of its list: "atom, P or M, optional group `0`, A to Z or a to z".
+pub fn centre_line(
+    line: &[u8],
+    place: usize,
+    atoms: usize,
+    count: usize,
+    region: &mut [u32],
+) -> LineAfter
+    ensures { λ r. ⌜ (length (now (region .exit)) ≡ length (now (region .entry))) × (length (now (region .entry)) ≡ 256 → count ≤ 128 → atoms ≤ 256 → LineWithin 128 r × LineShows Centres atoms count (now (line .entry)) place (now (region .entry)) (now (region .exit)) r)
+        × ((length (now (region .entry)) ≡ 256 → count ≤ 128 → atoms ≤ 256 → ⊥) → LineUntouched place (now (region .entry)) (now (region .exit)) r) ⌝ }
+{
+    if region.len() != Scratch::CENTRES {
+        return LineAfter::Refused(0, place);
+    }
+    if Table::CENTRES < count {
+        return LineAfter::Refused(0, place);
+    }
+    if Table::ATOMS < atoms {
+        return LineAfter::Refused(0, place);
+    }
+    if is_bare(line) {
+        return LineAfter::Kept(count);
+    }
+    let row = rows::centre::centre_row(line);
+    let CentreRow::Values(atom, side, group) = row else {
+        let CentreRow::Refused(reason) = row else {
+            return LineAfter::Refused(0, place);
+        };
+        return LineAfter::Refused(reason, place);
+    };
+    let payload = Scratch::PAYLOAD * side + group;
+    let after = one_atom(atoms, count, region, Table::CENTRES, atom, payload);
+    on_line(after, place)
+}
+
+// What a line of STEREOPAIR leaves of its list: "two atoms, P, M or 0, optional group".
+pub fn pair_line(
+    line: &[u8],
+    place: usize,
+    atoms: usize,
+    count: usize,
+    region: &mut [u32],
+) -> LineAfter
+    ensures { λ r. ⌜ (length (now (region .exit)) ≡ length (now (region .entry))) × (length (now (region .entry)) ≡ 256 → count ≤ 128 → atoms ≤ 256 → LineWithin 128 r × LineShows Pairs atoms count (now (line .entry)) place (now (region .entry)) (now (region .exit)) r)
+        × ((length (now (region .entry)) ≡ 256 → count ≤ 128 → atoms ≤ 256 → ⊥) → LineUntouched place (now (region .entry)) (now (region .exit)) r) ⌝ }
+{
+    if region.len() != Scratch::PAIRS {
+        return LineAfter::Refused(0, place);
+    }
+    if Table::PAIRS < count {
+        return LineAfter::Refused(0, place);
+    }
+    if Table::ATOMS < atoms {
+        return LineAfter::Refused(0, place);
+    }
+    if is_bare(line) {
+        return LineAfter::Kept(count);
+    }
+    let row = rows::pair::pair_row(line);
+    let PairRow::Values(first, second, side, group) = row else {
+        let PairRow::Refused(reason) = row else {
+            return LineAfter::Refused(0, place);
+        };
+        return LineAfter::Refused(reason, place);
+    };
+    let payload = Scratch::PAYLOAD * side + group;
+    let after = two_atoms(
+        atoms,
+        count,
+        region,
+        Table::PAIRS,
+        first,
+        second,
+        payload,
+        false,
+    );
+    on_line(after, place)
 }

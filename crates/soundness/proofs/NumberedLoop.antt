@@ -52,12 +52,17 @@ module _ (met rows p n : ℕ) (t : List ℤ) (i : ℕ) where
   first : i < n → rest i ≡ getD (columnOf p n t) i 0 ∷ rest (suc i)
   first h = drop-cons (columnOf p n t) i 0 (omega (arith, column-size p n t))
 
-  pub turn-at-beyond : p < 5 → i < n → (row : ℕ) → row ≡ cell t (16 + 5 * i + p) → met + 1 < row → inTurn met rows (rest i) ≡ false
-  turn-at-beyond k h row e b = ap (inTurn met rows) (first h) ∙ turn-beyond met rows (getD (columnOf p n t) i 0) (rest (suc i)) (omega (arith, column-cell p n t i k h))
+  -- the number of the atom's row, read at the record's place
+  number : p < 5 → i < n → (place : ℕ) → place ≡ 16 + 5 * i → (row : ℕ) → row ≡ cell t (place + p) → getD (columnOf p n t) i 0 ≡ row
+  number k h place s row e = column-cell p n t i k h ∙ ap (λ (m : ℕ). cell t (m + p)) (sym s) ∙ sym e
 
-  pub turn-at-on : p < 5 → i < n → (row next : ℕ) → row ≡ cell t (16 + 5 * i + p) → row ≤ met + 1 → next ≡ max met row → inTurn met rows (rest i) ≡ inTurn next rows (rest (i + 1))
-  turn-at-on k h row next e b f =
-      let c : getD (columnOf p n t) i 0 ≡ row = column-cell p n t i k h ∙ sym e in
+  pub turn-at-beyond : p < 5 → i < n → (place : ℕ) → place ≡ 16 + 5 * i → (row : ℕ) → row ≡ cell t (place + p) → met + 1 < row → inTurn met rows (rest i) ≡ false
+  turn-at-beyond k h place s row e b = ap (inTurn met rows) (first h) ∙ turn-beyond met rows (getD (columnOf p n t) i 0) (rest (suc i)) (omega (arith, number k h place s row e))
+
+  pub turn-at-on : p < 5 → i < n → (place : ℕ) → place ≡ 16 + 5 * i → (row next : ℕ) → row ≡ cell t (place + p) → row ≤ met + 1 → next ≡ max met row →
+      inTurn met rows (rest i) ≡ inTurn next rows (rest (i + 1))
+  turn-at-on k h place s row next e b f =
+      let c : getD (columnOf p n t) i 0 ≡ row = number k h place s row e in
       ap (inTurn met rows) (first h) ∙ turn-on met rows (getD (columnOf p n t) i 0) (rest (suc i)) (omega arith)
       ∙ rw (c, ← f, add-one)
 

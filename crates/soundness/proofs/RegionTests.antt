@@ -1,5 +1,5 @@
 -- The regions' definitions over what the code has in hand: the counts that it read, the parts that it lent. Assumes nothing.
-use Prim.Native.Nat.{ℕ, _+_, _-_, _*_, _≤_, _<_}
+use Prim.Native.Nat.{ℕ, _+_, _-_, _*_, _≤_, _<_, min}
 use mathlib.Core.Path.{_≡_, refl, sym, ap, ap₂, _∙_}
 use mathlib.Core.Bool.{Bool, true, false, not, _&&_}
 use mathlib.Core.List.{List}
@@ -11,7 +11,10 @@ use borrow.Author.Tests.{lt-leb, le-leb}
 use Rattle.lists.specs.Lists.{all, rowsFrom}
 use Rattle.lists.proofs.Bools.{torn, and-parts}
 use Rattle.format.specs.Bytes.{Bytes}
-use Rattle.format.specs.Table.{cell, spansOf, soundNumbers, textOk, sound}
+use Rattle.format.specs.Labels.{Bonds, Charges, Radicals, Centres, Pairs}
+use Rattle.format.specs.Structure.{most}
+use Rattle.format.specs.Table.{base, width, rowPlace, cell, spansOf, soundNumbers, textOk, sound}
+use Rattle.format.proofs.PlaceLaws.{rows-behind}
 use Rattle.soundness.specs.Numbered.{columnOf, inTurn}
 use Rattle.soundness.specs.Sounding.{unused, countsFine, headerFine, atomFine, atomsFine, recordsFine, keyedFine, bondsFine, centresFine, pairsFine, valueFine, valuesFine, chargesFine, radicalsFine, listsFine, regionsFine}
 use Rattle.soundness.proofs.AtomLaws.{columns-fine}
@@ -24,42 +27,51 @@ pub passed : (r a : Bool) → r ≡ a → not r ≡ false → a ≡ true
 passed true a e h = sym e
 passed false a e h = torn true refl h
 
+-- where the unused part of the charges starts, and of the radicals
+pub charges-from : (rows next from : ℕ) → rows ≤ 64 → next ≡ rowPlace Charges rows → from ≡ min 2896 next → from ≡ 2832 + rows
+unfolding base width most
+charges-from rows next from h e f = omega (arith, rows-behind Charges rows h next 2896 from e refl f)
+
+pub radicals-from : (rows next from : ℕ) → rows ≤ 64 → next ≡ rowPlace Radicals rows → from ≡ min 2960 next → from ≡ 2896 + rows
+unfolding base width most
+radicals-from rows next from h e f = omega (arith, rows-behind Radicals rows h next 2960 from e refl f)
+
 module _ (t : List ℤ) where
   -- the part of the table between two places
-  stretch : (from to size : ℕ) → to - from ≡ size → unused (take (to - from) (drop from t)) ≡ unused (take size (drop from t))
-  stretch from to size e = ap (λ (i : ℕ). unused (take i (drop from t))) e
+  stretch : (from to start size : ℕ) → from ≡ start → to - start ≡ size → unused (take (to - from) (drop from t)) ≡ unused (take size (drop start t))
+  stretch from to start size e f = ap (λ (i : ℕ). unused (take (to - i) (drop i t))) e ∙ ap (λ (i : ℕ). unused (take i (drop start t))) f
 
-  pub atoms-is : (n c r : ℕ) → n ≡ cell t 0 → c ≡ cell t 2 → r ≡ cell t 3 →
-      (all (λ b. b) (rowsFrom 5 (atomFine 103 c r) n (drop 16 t)) && unused (take (1296 - (16 + 5 * n)) (drop (16 + 5 * n) t))) ≡ atomsFine 103 t
+  pub atoms-is : (n c r : ℕ) → n ≡ cell t 0 → c ≡ cell t 2 → r ≡ cell t 3 → (from : ℕ) → from ≡ 16 + 5 * n →
+      (all (λ b. b) (rowsFrom 5 (atomFine 103 c r) n (drop 16 t)) && unused (take (1296 - from) (drop from t))) ≡ atomsFine 103 t
   unfolding atomsFine
-  atoms-is n c r e f g =
-      ap (λ (b : Bool). all (λ b. b) (rowsFrom 5 (atomFine 103 c r) n (drop 16 t)) && b) (stretch (16 + 5 * n) 1296 (1280 - 5 * n) (omega arith)) ∙ rw (e, f, g)
+  atoms-is n c r e f g from s =
+      ap (λ (b : Bool). all (λ b. b) (rowsFrom 5 (atomFine 103 c r) n (drop 16 t)) && b) (stretch from 1296 (16 + 5 * n) (1280 - 5 * n) s (omega arith)) ∙ rw (e, f, g)
 
-  pub keyed-is : (members low high : ℕ) (grouped : Bool) (base w room n rows : ℕ) →
-      (recordsFine members low high grouped w n rows (drop base t) && unused (take (base + room - (base + w * rows)) (drop (base + w * rows) t))) ≡ keyedFine members low high grouped base w room n rows t
+  pub keyed-is : (members low high : ℕ) (grouped : Bool) (first w room n rows from end : ℕ) → from ≡ first + w * rows → end ≡ first + room →
+      (recordsFine members low high grouped w n rows (drop first t) && unused (take (end - from) (drop from t))) ≡ keyedFine members low high grouped first w room n rows t
   unfolding keyedFine
-  keyed-is members low high grouped base w room n rows =
-      ap (λ (b : Bool). recordsFine members low high grouped w n rows (drop base t) && b) (stretch (base + w * rows) (base + room) (room - w * rows) (omega arith))
+  keyed-is members low high grouped first w room n rows from end s e =
+      ap (λ (b : Bool). recordsFine members low high grouped w n rows (drop first t) && b) (stretch from end (first + w * rows) (room - w * rows) s (omega arith))
 
-  pub bonds-is : (n c : ℕ) → n ≡ cell t 0 → c ≡ cell t 1 → keyedFine 2 1 5 false 1296 3 1536 n c t ≡ bondsFine t
-  unfolding bondsFine
+  pub bonds-is : (n c : ℕ) → n ≡ cell t 0 → c ≡ cell t 1 → keyedFine 2 1 5 false (base Bonds) (width Bonds) (width Bonds * most Bonds) n c t ≡ bondsFine t
+  unfolding bondsFine base width most
   bonds-is n c e f = rw (e, f)
 
-  pub centres-is : (n c : ℕ) → n ≡ cell t 0 → c ≡ cell t 4 → keyedFine 1 1 2 true 2960 3 384 n c t ≡ centresFine t
-  unfolding centresFine
+  pub centres-is : (n c : ℕ) → n ≡ cell t 0 → c ≡ cell t 4 → keyedFine 1 1 2 true (base Centres) (width Centres) (width Centres * most Centres) n c t ≡ centresFine t
+  unfolding centresFine base width most
   centres-is n c e f = rw (e, f)
 
-  pub pairs-is : (n c : ℕ) → n ≡ cell t 0 → c ≡ cell t 5 → keyedFine 2 0 2 true 3344 4 512 n c t ≡ pairsFine t
-  unfolding pairsFine
+  pub pairs-is : (n c : ℕ) → n ≡ cell t 0 → c ≡ cell t 5 → keyedFine 2 0 2 true (base Pairs) (width Pairs) (width Pairs * most Pairs) n c t ≡ pairsFine t
+  unfolding pairsFine base width most
   pairs-is n c e f = rw (e, f)
 
-  pub values-is : (signed : Bool) (first rows : ℕ) →
-      (all (valueFine signed) (take (first + rows - first) (drop first t)) && unused (take (first + 64 - (first + rows)) (drop (first + rows) t))) ≡ valuesFine signed first rows t
+  pub values-are : (signed : Bool) (first rows from : ℕ) → from ≡ first + rows → (x : Bool) →
+      x ≡ (all (valueFine signed) (take (from - first) (drop first t)) && unused (take (first + 64 - from) (drop from t))) → x ≡ valuesFine signed first rows t
   unfolding valuesFine
-  values-is signed first rows =
-      let q : first + rows - first ≡ rows = omega arith in
-      ap (λ (i : ℕ). all (valueFine signed) (take i (drop first t)) && unused (take (first + 64 - (first + rows)) (drop (first + rows) t))) q
-      ∙ ap (λ (b : Bool). all (valueFine signed) (take rows (drop first t)) && b) (stretch (first + rows) (first + 64) (64 - rows) (omega arith))
+  values-are signed first rows from s x e =
+      let q : from - first ≡ rows = omega arith in
+      e ∙ ap (λ (i : ℕ). all (valueFine signed) (take i (drop first t)) && unused (take (first + 64 - from) (drop from t))) q
+      ∙ ap (λ (b : Bool). all (valueFine signed) (take rows (drop first t)) && b) (stretch from (first + 64) (first + rows) (64 - rows) s (omega arith))
 
   pub charges-is : (n c : ℕ) → n ≡ cell t 0 → c ≡ cell t 2 → (valuesFine true 2832 c t && inTurn 0 c (columnOf 3 n t)) ≡ chargesFine t
   unfolding chargesFine

@@ -6,7 +6,7 @@ use mathlib.Core.Bool.{Bool, true, false, not, _&&_, _||_, and-true, and-assoc}
 use mathlib.Core.List.{List, _∷_}
 use native.Mathlib.Omega.{arith}
 use native.Mathlib.Numerals.{add-one}
-use native.Mathlib.Nat.{add-zero, mul-le-mul-left}
+use native.Mathlib.Nat.{add-zero}
 use lib.ListN.{length, getD, take, drop, drop-of-length-le}
 use lib.Seq.{drop-cons, drop-drop, getD-drop}
 use lib.IntN.{ℤ, pos, natAbs}
@@ -25,11 +25,13 @@ use Rattle.lists.proofs.ListLaws.{all-cons, all-step, all-miss, all-end}
 use Rattle.lists.proofs.RegionLaws.{rows-length, rows-at}
 use Rattle.lists.proofs.SortLaws.{ascends-cons, ascends-one}
 use Rattle.format.specs.Bytes.{within}
+use Rattle.format.specs.Labels.{ListOf}
 use Rattle.format.specs.Structure.{ranging}
 use Rattle.format.specs.Table.{cell}
 use Rattle.format.proofs.ByteLaws.{within-low}
 use Rattle.cells.specs.Signs.{negative}
-use Rattle.soundness.specs.Sounding.{numberAt, unused, countsFine, placesFine, headerFine, atomFine, groupFine, markFine, keyIf, pairKey, atomsKey, recordKey, recordsFine, valueFine}
+use Rattle.soundness.specs.declared.keyed.Ordered.{Ordered}
+use Rattle.soundness.specs.Sounding.{listOf, numberAt, unused, countsFine, placesFine, headerFine, atomFine, groupFine, markFine, keyIf, pairKey, atomsKey, recordKey, recordsFine, valueFine}
 use Rattle.soundness.proofs.SplitLaws.{Ranged, ranged-of, ranging-pos, zero-is}
 
 -- A ROW OF TESTS
@@ -110,6 +112,10 @@ module _ (signed : Bool) (v : ℤ) (size : ℕ) (q : size ≡ natAbs v) where
 pub value-plain : (signed : Bool) (v : ℤ) → signed ≡ false → ranging 1 15 v ≡ valueFine signed v
 unfolding valueFine
 value-plain signed v e = rw e
+
+-- a number of the list that was told
+pub list-told : (of : ListOf → ℕ) (n : ℕ) (x y : Ordered) → x ≡ y → n ≡ of (listOf y) → n ≡ of (listOf x)
+list-told of n x y e p = p ∙ sym (ap (λ (z : Ordered). of (listOf z)) e)
 
 -- KEYS
 pub key-none : (r a : Bool) (k : ℕ) → r ≡ a → not r ≡ true → 0 ≡ keyIf a k
@@ -213,14 +219,10 @@ module _ (s : List ℤ) (i : ℕ) where
   pub signs-pass : i < length s → (r : Bool) → r ≡ negative (numberAt s i) → r ≡ false → all (λ z. not (negative z)) (drop i s) ≡ all (λ z. not (negative z)) (drop (i + 1) s)
   signs-pass h r e k = all-step (λ z. not (negative z)) (pos 0) s i h (ap not (sym e ∙ k))
 
--- a record of the list stands within the table
-pub row-within : (first w i rows : ℕ) → first + w * rows ≤ 3856 → i < rows → first + w * i ≤ 3856
-row-within first w i rows h k = let q : w * i ≤ w * rows = mul-le-mul-left w (omega arith) in omega arith
-
 -- THE LOOPS over records: each passes a test
 module _ (t : List ℤ) (base w n : ℕ) where
-  row-place : {A : Type 0} (d : A) (row : List ℤ → A) (i : ℕ) → i < n → getD (rowsFrom w row n (drop base t)) i d ≡ row (drop (base + w * i) t)
-  row-place d row i h = rows-at w row d n (drop base t) i h ∙ ap row (drop-drop (w * i) base t)
+  row-place : {A : Type 0} (d : A) (row : List ℤ → A) (i p : ℕ) → p ≡ base + w * i → i < n → getD (rowsFrom w row n (drop base t)) i d ≡ row (drop p t)
+  row-place d row i p q h = rows-at w row d n (drop base t) i h ∙ ap row (drop-drop (w * i) base t) ∙ ap (λ (k : ℕ). row (drop k t)) (sym q)
 
   module _ (test : List ℤ → Bool) (i : ℕ) where
     abbrev tests : List Bool
@@ -229,11 +231,11 @@ module _ (t : List ℤ) (base w n : ℕ) where
     many : length tests ≡ n
     many = rows-length w test n (drop base t)
 
-    pub rows-miss : i < n → (r : Bool) → r ≡ test (drop (base + w * i) t) → not r ≡ true → all (λ b. b) (drop i tests) ≡ false
-    rows-miss h r e k = all-miss (λ b. b) false tests i (omega (arith, many)) (row-place false test i h ∙ sym e ∙ fails r k)
+    pub rows-miss : i < n → (p : ℕ) → p ≡ base + w * i → (r : Bool) → r ≡ test (drop p t) → not r ≡ true → all (λ b. b) (drop i tests) ≡ false
+    rows-miss h p q r e k = all-miss (λ b. b) false tests i (omega (arith, many)) (row-place false test i p q h ∙ sym e ∙ fails r k)
 
-    pub rows-pass : i < n → (r : Bool) → r ≡ test (drop (base + w * i) t) → not r ≡ false → all (λ b. b) (drop i tests) ≡ all (λ b. b) (drop (i + 1) tests)
-    rows-pass h r e k = all-step (λ b. b) false tests i (omega (arith, many)) (row-place false test i h ∙ sym e ∙ holds r k)
+    pub rows-pass : i < n → (p : ℕ) → p ≡ base + w * i → (r : Bool) → r ≡ test (drop p t) → not r ≡ false → all (λ b. b) (drop i tests) ≡ all (λ b. b) (drop (i + 1) tests)
+    rows-pass h p q r e k = all-step (λ b. b) false tests i (omega (arith, many)) (row-place false test i p q h ∙ sym e ∙ holds r k)
 
     pub rows-end : n ≤ i → all (λ b. b) (drop i tests) ≡ true
     rows-end h = all-end (λ b. b) tests i (omega (arith, many))
@@ -246,16 +248,16 @@ module _ (t : List ℤ) (base w n : ℕ) where
     as-many : length keys ≡ n
     as-many = rows-length w key n (drop base t)
 
-    next-key : i < n → (k : ℕ) → k ≡ key (drop (base + w * i) t) → ascends ltb (last ∷ drop i keys) ≡ (ltb last k && ascends ltb (k ∷ drop (i + 1) keys))
-    next-key h k e =
-        let q : drop i keys ≡ k ∷ drop (i + 1) keys = drop-cons keys i 0 (omega (arith, as-many)) ∙ rw (row-place 0 key i h, ← e, add-one) in
+    next-key : i < n → (p : ℕ) → p ≡ base + w * i → (k : ℕ) → k ≡ key (drop p t) → ascends ltb (last ∷ drop i keys) ≡ (ltb last k && ascends ltb (k ∷ drop (i + 1) keys))
+    next-key h p s k e =
+        let q : drop i keys ≡ k ∷ drop (i + 1) keys = drop-cons keys i 0 (omega (arith, as-many)) ∙ rw (row-place 0 key i p s h, ← e, add-one) in
         ap (λ (l : List ℕ). ascends ltb (last ∷ l)) q ∙ ascends-cons ltb last (k ∷ drop (i + 1) keys)
 
-    pub keys-miss : i < n → (k : ℕ) → k ≡ key (drop (base + w * i) t) → k ≤ last → ascends ltb (last ∷ drop i keys) ≡ false
-    keys-miss h k e l = next-key h k e ∙ rw (le-ltb last k l)
+    pub keys-miss : i < n → (p : ℕ) → p ≡ base + w * i → (k : ℕ) → k ≡ key (drop p t) → k ≤ last → ascends ltb (last ∷ drop i keys) ≡ false
+    keys-miss h p s k e l = next-key h p s k e ∙ rw (le-ltb last k l)
 
-    pub keys-pass : i < n → (k : ℕ) → k ≡ key (drop (base + w * i) t) → last < k → ascends ltb (last ∷ drop i keys) ≡ ascends ltb (k ∷ drop (i + 1) keys)
-    keys-pass h k e l = next-key h k e ∙ rw (lt-ltb last k l)
+    pub keys-pass : i < n → (p : ℕ) → p ≡ base + w * i → (k : ℕ) → k ≡ key (drop p t) → last < k → ascends ltb (last ∷ drop i keys) ≡ ascends ltb (k ∷ drop (i + 1) keys)
+    keys-pass h p s k e l = next-key h p s k e ∙ rw (lt-ltb last k l)
 
     pub keys-end : n ≤ i → ascends ltb (last ∷ drop i keys) ≡ true
     keys-end h = ap (λ (l : List ℕ). ascends ltb (last ∷ l)) (drop-of-length-le keys {i = i} (omega (arith, as-many))) ∙ ascends-one ltb last

@@ -9,10 +9,13 @@ use lib.Dec.{ltb}
 use Rattle.lists.specs.Lists.{all, rowsFrom}
 use Rattle.lists.specs.Order.{ascends}
 use Rattle.format.specs.Bytes.{within}
-use Rattle.format.specs.Structure.{ranging}
-use Rattle.format.specs.Table.{cell}
+use Rattle.format.specs.Labels.{ListOf, Bonds, Centres, Pairs}
+use Rattle.format.specs.Structure.{ranging, most}
+use Rattle.format.specs.Table.{base, width, cell}
 use Rattle.cells.specs.Signs.{negative}
 use Rattle.soundness.specs.Numbered.{columnOf, inTurn}
+use Rattle.soundness.specs.declared.keyed.Ordered.{Ordered}
+use Rattle.soundness.specs.declared.keyed.Ordered.the-variants.{Bond, Centre, Pair}
 
 abbrev pub numberAt : List ℤ → ℕ → ℤ
 numberAt t p = getD t p (pos 0)
@@ -47,7 +50,16 @@ unfoldable pub atomsFine : (k : ℕ) → List ℤ → Bool
 atomsFine k t =
     all (λ b. b) (rowsFrom 5 (atomFine k (cell t 2) (cell t 3)) (cell t 0) (drop 16 t)) && unused (take (1280 - 5 * cell t 0) (drop (16 + 5 * cell t 0) t))
 
--- LISTS THAT STAND BY THEIR ATOMS. A record of one or two atoms, a value and, where the list has groups, a group.
+-- LISTS THAT STAND BY THEIR ATOMS: which is meant, and where its region ends
+abbrev pub listOf : Ordered → ListOf
+listOf Bond = Bonds
+listOf Centre = Centres
+listOf Pair = Pairs
+
+abbrev pub regionEnd : ListOf → ℕ
+regionEnd l = base l + width l * most l
+
+-- A record of one or two atoms, a value and, where the list has groups, a group.
 -- "group `0`, A to Z or a to z": 0, or its letter's byte
 unfoldable pub groupFine : (grouped : Bool) → ℤ → Bool
 groupFine false z = true
@@ -78,9 +90,9 @@ recordKey members low high grouped n s = keyIf (markFine low high grouped (drop 
 unfoldable pub recordsFine : (members low high : ℕ) → (grouped : Bool) → (width n rows : ℕ) → List ℤ → Bool
 recordsFine members low high grouped w n rows s = ascends ltb (0 ∷ rowsFrom w (recordKey members low high grouped n) rows s)
 
-unfoldable pub keyedFine : (members low high : ℕ) → (grouped : Bool) → (base width size n rows : ℕ) → List ℤ → Bool
-keyedFine members low high grouped base w size n rows t =
-    recordsFine members low high grouped w n rows (drop base t) && unused (take (size - w * rows) (drop (base + w * rows) t))
+unfoldable pub keyedFine : (members low high : ℕ) → (grouped : Bool) → (first width size n rows : ℕ) → List ℤ → Bool
+keyedFine members low high grouped first w size n rows t =
+    recordsFine members low high grouped w n rows (drop first t) && unused (take (size - w * rows) (drop (first + w * rows) t))
 
 -- "512 bonds: lower atom, higher atom, kind 1 to 5"; "128 centres: atom, 1 P or 2 M, group byte"; "128 pairs: lower, higher, 0, 1 P or 2 M, group byte"
 unfoldable pub bondsFine : List ℤ → Bool
@@ -97,8 +109,8 @@ unfoldable pub valueFine : (signed : Bool) → ℤ → Bool
 valueFine true v = within 1 99 (natAbs v)
 valueFine false v = ranging 1 15 v
 
-unfoldable pub valuesFine : (signed : Bool) → (base rows : ℕ) → List ℤ → Bool
-valuesFine signed base rows t = all (valueFine signed) (take rows (drop base t)) && unused (take (64 - rows) (drop (base + rows) t))
+unfoldable pub valuesFine : (signed : Bool) → (first rows : ℕ) → List ℤ → Bool
+valuesFine signed first rows t = all (valueFine signed) (take rows (drop first t)) && unused (take (64 - rows) (drop (first + rows) t))
 
 -- and the rows' order, by the numbers that the atoms' records hold
 unfoldable pub chargesFine : List ℤ → Bool

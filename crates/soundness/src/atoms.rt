@@ -6,6 +6,7 @@ ghost use Rattle.lists.specs.Lists.{all, rowsFrom};
 ghost use Rattle.format.specs.Table.{cell as cellOf};
 ghost use Rattle.soundness.specs.Sounding.{atomFine, atomsFine};
 use crate::parts::all_zero;
+use crate::parts::unused_from;
 use cells::cell;
 use cells::ranges;
 use format::Table;
@@ -37,7 +38,7 @@ fn each_atom_fine(table: &[i32], atoms: usize, charges: u32, radicals: u32) -> b
 {
     let mut i = 0;
     while i < atoms {
-        if !atom_fine(table, Table::FIRST_ATOM + 5 * i, charges, radicals) {
+        if !atom_fine(table, Table::atom(i), charges, radicals) {
             return false;
         }
         i += 1;
@@ -56,5 +57,6 @@ pub fn atoms_fine(table: &[i32]) -> bool
     if !each_atom_fine(table, atoms, charges, radicals) {
         return false;
     }
-    all_zero(&table[Table::FIRST_ATOM + 5 * atoms..Table::FIRST_BOND])
+    let from = unused_from(Table::atom(atoms), Table::FIRST_BOND);
+    all_zero(&table[from..Table::FIRST_BOND])
 }

@@ -8,6 +8,9 @@ use crate::parts::none_negative;
 use cells::ranges;
 use format::Table;
 
+// Where the numbers behind the texts' places start: "13 to 15 are 0".
+const FIRST_DERIVED: usize = Table::FIRST_TEXT + 2 * Table::TEXTS;
+
 // Whether each count is within its list's limit: one atom at least, the id "0 none" to 999,999.
 fn counts_fine(table: &[i32]) -> bool
     ensures { λ r. ⌜ r ≡ countsFine (now (table .entry)) ⌝ }
@@ -41,8 +44,8 @@ pub fn header_fine(table: &[i32]) -> bool
     if !counts_fine(table) {
         return false;
     }
-    if !none_negative(&table[Table::FIRST_TEXT..13]) {
+    if !none_negative(&table[Table::FIRST_TEXT..FIRST_DERIVED]) {
         return false;
     }
-    all_zero(&table[13..Table::FIRST_ATOM])
+    all_zero(&table[FIRST_DERIVED..Table::FIRST_ATOM])
 }

@@ -1,26 +1,57 @@
 // Lists that stand by their atoms, bonds, centres and pairs: document 01, "The structure table" ("Bonds, centres and pairs ascend by their atoms."). One test for
 // the three; what a record of each has is its shape.
 ghost use mathlib.Core.Path.{_≡_};
-ghost use Prim.Native.Nat.{_+_, _*_, _≤_};
+ghost use Prim.Native.Nat.{_*_, _≤_};
 ghost use lib.ListN.{length, drop, getD};
 ghost use lib.IntN.{pos};
-ghost use Rattle.format.specs.Table.{cell as cellOf};
-ghost use Rattle.soundness.specs.Sounding.{groupFine, markFine, atomsKey, recordKey, recordsFine, keyedFine, bondsFine, centresFine, pairsFine};
+ghost use Rattle.format.specs.Structure.{most};
+ghost use Rattle.format.specs.Table.{base, width, rowPlace, cell as cellOf};
+ghost use Rattle.soundness.specs.Sounding.{listOf, regionEnd, groupFine, markFine, atomsKey, recordKey, recordsFine, keyedFine, bondsFine, centresFine, pairsFine};
 use crate::parts::all_zero;
+use crate::parts::unused_from;
 use cells::cell;
 use cells::ranges;
 use format::Table;
 
-// Where a list's records start and how many numbers they have room for; how wide a record is, how many atoms are its members, its value's range, whether a
-// group follows.
+// A key is the lower atom times this, plus the higher one.
+const KEY: u32 = 1024;
+
+// The lists that stand by their atoms.
+pub enum Ordered {
+    Bond,
+    Centre,
+    Pair,
+}
+
+// A list, and what a record of it has: how many atoms are its members, its value's range, whether a group follows.
 pub struct Shape {
-    pub first: usize,
-    pub room: usize,
-    pub width: usize,
+    pub list: Ordered,
     pub members: usize,
     pub low: u32,
     pub high: u32,
     pub grouped: bool,
+}
+
+// Where a record of the list stands.
+fn record_at(list: Ordered, index: usize) -> usize
+    ensures { λ r. ⌜ r ≡ rowPlace (listOf list) index ⌝ }
+{
+    match list {
+        Ordered::Bond => Table::bond(index),
+        Ordered::Centre => Table::centre(index),
+        Ordered::Pair => Table::pair(index),
+    }
+}
+
+// Where the list's region ends.
+fn region_end(list: Ordered) -> usize
+    ensures { λ r. ⌜ r ≡ regionEnd (listOf list) ⌝ }
+{
+    match list {
+        Ordered::Bond => Table::FIRST_CHARGE,
+        Ordered::Centre => Table::FIRST_PAIR,
+        Ordered::Pair => Table::SIZE,
+    }
 }
 
 // "group `0`, A to Z or a to z": 0, or its letter's byte.
@@ -60,12 +91,12 @@ fn atoms_key(table: &[i32], at: usize, paired: bool, atoms: u32) -> u32
     }
     let lower = cell(table, at);
     if !paired {
-        return 1024 * lower;
+        return KEY * lower;
     }
     if !ranges(table, at + 1, lower + 1, atoms) {
         return 0;
     }
-    1024 * lower + cell(table, at + 1)
+    KEY * lower + cell(table, at + 1)
 }
 
 // The key of the record that stands there, 0 where something in it is not fine.
@@ -82,15 +113,14 @@ fn record_key(table: &[i32], at: usize, shape: Shape, atoms: u32) -> u32
 
 // Whether the keys of so many records ascend from 0, so that each record is fine and no two have the same atoms.
 fn records_fine(table: &[i32], shape: Shape, atoms: u32, rows: usize) -> bool
-    requires { ⌜ (shape .first + shape .width * rows ≤ 3856) × (shape .members ≤ 2) × (atoms ≤ 256) ⌝ }
-    ensures { λ r. ⌜ r ≡ recordsFine (shape .members) (shape .low) (shape .high) (shape .grouped) (shape .width) atoms rows (drop (shape .first) (now (table .entry))) ⌝ }
+    requires { ⌜ (rows ≤ most (listOf (shape .list))) × (shape .members ≤ 2) × (atoms ≤ 256) ⌝ }
+    ensures { λ r. ⌜ r ≡ recordsFine (shape .members) (shape .low) (shape .high) (shape .grouped) (width (listOf (shape .list))) atoms rows (drop (base (listOf (shape .list))) (now (table .entry))) ⌝ }
 {
-    let first = shape.first;
-    let width = shape.width;
+    let list = shape.list;
     let mut last = 0;
     let mut i = 0;
     while i < rows {
-        let key = record_key(table, first + width * i, shape, atoms);
+        let key = record_key(table, record_at(list, i), shape, atoms);
         if key <= last {
             return false;
         }
@@ -102,16 +132,16 @@ fn records_fine(table: &[i32], shape: Shape, atoms: u32, rows: usize) -> bool
 
 // Whether a list's region is fine: the records, and 0 behind the last.
 fn keyed_fine(table: &[i32], shape: Shape, atoms: u32, rows: usize) -> bool
-    requires { ⌜ (3856 ≤ length (now table)) × (shape .first + shape .room ≤ 3856) × (shape .width * rows ≤ shape .room) × (shape .members ≤ 2) × (atoms ≤ 256) ⌝ }
-    ensures { λ r. ⌜ r ≡ keyedFine (shape .members) (shape .low) (shape .high) (shape .grouped) (shape .first) (shape .width) (shape .room) atoms rows (now (table .entry)) ⌝ }
+    requires { ⌜ (3856 ≤ length (now table)) × (rows ≤ most (listOf (shape .list))) × (shape .members ≤ 2) × (atoms ≤ 256) ⌝ }
+    ensures { λ r. ⌜ r ≡ keyedFine (shape .members) (shape .low) (shape .high) (shape .grouped) (base (listOf (shape .list))) (width (listOf (shape .list))) (width (listOf (shape .list)) * most (listOf (shape .list))) atoms rows (now (table .entry)) ⌝ }
 {
     if !records_fine(table, shape, atoms, rows) {
         return false;
     }
-    let first = shape.first;
-    let room = shape.room;
-    let used = shape.width * rows;
-    all_zero(&table[first + used..first + room])
+    let list = shape.list;
+    let end = region_end(list);
+    let from = unused_from(record_at(list, rows), end);
+    all_zero(&table[from..end])
 }
 
 // "512 bonds: lower atom, higher atom, kind 1 to 5 for S, D, T, Q, A".
@@ -120,9 +150,7 @@ pub fn bonds_fine(table: &[i32]) -> bool
     ensures { λ r. ⌜ r ≡ bondsFine (now (table .entry)) ⌝ }
 {
     let bonds = Shape {
-        first: Table::FIRST_BOND,
-        room: 3 * Table::BONDS,
-        width: 3,
+        list: Ordered::Bond,
         members: 2,
         low: 1,
         high: 5,
@@ -139,9 +167,7 @@ pub fn centres_fine(table: &[i32]) -> bool
     ensures { λ r. ⌜ r ≡ centresFine (now (table .entry)) ⌝ }
 {
     let centres = Shape {
-        first: Table::FIRST_CENTRE,
-        room: 3 * Table::CENTRES,
-        width: 3,
+        list: Ordered::Centre,
         members: 1,
         low: 1,
         high: 2,
@@ -158,9 +184,7 @@ pub fn pairs_fine(table: &[i32]) -> bool
     ensures { λ r. ⌜ r ≡ pairsFine (now (table .entry)) ⌝ }
 {
     let pairs = Shape {
-        first: Table::FIRST_PAIR,
-        room: 4 * Table::PAIRS,
-        width: 4,
+        list: Ordered::Pair,
         members: 2,
         low: 0,
         high: 2,

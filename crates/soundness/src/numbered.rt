@@ -31,7 +31,7 @@ pub fn rows_in_order(table: &[i32], column: usize, atoms: usize, rows: usize) ->
     let mut met = 0;
     let mut i = 0;
     while i < atoms {
-        let row = cell(table, Table::FIRST_ATOM + 5 * i + column) as usize;
+        let row = cell(table, Table::atom(i) + column) as usize;
         if met + 1 < row {
             return false;
         }

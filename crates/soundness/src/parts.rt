@@ -1,6 +1,7 @@
 // Tests of every number of a part of the table: document 01, "The structure table" ("unused ones are 0"), "Rows" (the values of charges and radicals).
 ghost use mathlib.Core.Path.{_≡_};
 ghost use mathlib.Core.Bool.{not, _&&_};
+ghost use Prim.Native.Nat.{min};
 ghost use lib.ListN.{length, getD};
 ghost use lib.IntN.{pos};
 ghost use Rattle.lists.specs.Lists.{all};
@@ -55,6 +56,16 @@ pub fn all_zero(part: &[i32]) -> bool
         return false;
     }
     each_zero(&part[end..])
+}
+
+// Where the unused part of a region starts that ends at `end`: `next` is the place of the record behind the last, which is beyond the region where that is full.
+pub fn unused_from(next: usize, end: usize) -> usize
+    ensures { λ r. ⌜ r ≡ min end next ⌝ }
+{
+    if next < end {
+        return next;
+    }
+    end
 }
 
 // Whether no number is below zero.

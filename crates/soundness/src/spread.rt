@@ -1,26 +1,28 @@
 // Charge and radical rows: document 01, "The structure table" ("64 charge values, 64 radical values"; "Charge and radical rows ascend by lowest atom, the row without
 // atoms last.").
 ghost use mathlib.Core.Path.{_≡_};
-ghost use mathlib.Core.Bool.{true};
-ghost use Prim.Native.Nat.{_+_, _≤_};
-ghost use lib.ListN.{length};
+ghost use mathlib.Core.Bool.{true, _&&_};
+ghost use Prim.Native.Nat.{_-_, _≤_};
+ghost use lib.ListN.{length, take, drop};
+ghost use Rattle.lists.specs.Lists.{all};
 ghost use Rattle.format.specs.Table.{cell as cellOf};
-ghost use Rattle.soundness.specs.Sounding.{atomsFine, valuesFine, chargesFine, radicalsFine};
+ghost use Rattle.soundness.specs.Sounding.{unused, atomsFine, valueFine, chargesFine, radicalsFine};
 use crate::numbered::rows_in_order;
 use crate::parts::all_zero;
+use crate::parts::unused_from;
 use crate::parts::values_fine;
 use cells::cell;
 use format::Table;
 
-// Whether the values are fine that stand from `first` on, and 0 behind the last. Both lists have room for as many.
-fn spread_fine(table: &[i32], first: usize, rows: usize, signed: bool) -> bool
-    requires { ⌜ (3856 ≤ length (now table)) × (first ≤ 2896) × (rows ≤ 64) ⌝ }
-    ensures { λ r. ⌜ r ≡ valuesFine signed first rows (now (table .entry)) ⌝ }
+// Whether the values of a list are fine, from its first to where the unused part starts, and 0 from there to the region's end.
+fn spread_fine(table: &[i32], first: usize, from: usize, end: usize, signed: bool) -> bool
+    requires { ⌜ (3856 ≤ length (now table)) × (first ≤ from) × (from ≤ end) × (end ≤ 3856) ⌝ }
+    ensures { λ r. ⌜ r ≡ (all (valueFine signed) (take (from - first) (drop first (now (table .entry)))) && unused (take (end - from) (drop from (now (table .entry))))) ⌝ }
 {
-    if !values_fine(&table[first..first + rows], signed) {
+    if !values_fine(&table[first..from], signed) {
         return false;
     }
-    all_zero(&table[first + rows..first + Table::CHARGES])
+    all_zero(&table[from..end])
 }
 
 // Whether the charges' values and the order of their rows are fine.
@@ -29,7 +31,8 @@ pub fn charges_fine(table: &[i32]) -> bool
     ensures { λ r. ⌜ r ≡ chargesFine (now (table .entry)) ⌝ }
 {
     let rows = cell(table, Table::CHARGE_COUNT) as usize;
-    if !spread_fine(table, Table::FIRST_CHARGE, rows, true) {
+    let from = unused_from(Table::charge(rows), Table::FIRST_RADICAL);
+    if !spread_fine(table, Table::FIRST_CHARGE, from, Table::FIRST_RADICAL, true) {
         return false;
     }
     let atoms = cell(table, Table::ATOM_COUNT) as usize;
@@ -42,7 +45,14 @@ pub fn radicals_fine(table: &[i32]) -> bool
     ensures { λ r. ⌜ r ≡ radicalsFine (now (table .entry)) ⌝ }
 {
     let rows = cell(table, Table::RADICAL_COUNT) as usize;
-    if !spread_fine(table, Table::FIRST_RADICAL, rows, false) {
+    let from = unused_from(Table::radical(rows), Table::FIRST_CENTRE);
+    if !spread_fine(
+        table,
+        Table::FIRST_RADICAL,
+        from,
+        Table::FIRST_CENTRE,
+        false,
+    ) {
         return false;
     }
     let atoms = cell(table, Table::ATOM_COUNT) as usize;

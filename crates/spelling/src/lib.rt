@@ -53,14 +53,17 @@ fn letters_word(row: u32) -> u64
     }
 }
 
+// How many values a letter's byte has.
+const BYTES: u64 = 256;
+
 // Both letters of an element; 0 where there is none.
 fn letters_of(element: u32) -> Letters
     ensures { λ r. ⌜ (r .first ≡ getD (symbolOf element) 0 0) × (r .second ≡ getD (symbolOf element) 1 0) ⌝ }
 {
     let shift = 16 * (element as u64 % 4);
     let word = letters_word(element / 4) >> shift;
-    let first = (word % 256) as u8;
-    let second = (word / 256 % 256) as u8;
+    let first = (word % BYTES) as u8;
+    let second = (word / BYTES % BYTES) as u8;
     Letters { first, second }
 }
 

@@ -1,5 +1,5 @@
--- A charge or radical row as its line is read: which list it is of, its first field, its members, and how the members take the row's number in the list's region.
--- Document 01, "Rows", CHARGE and RADICAL. Assumes nothing.
+-- A charge or radical row as its line is read: which list it is of, its first field, what the row is answered, its members, and how the members take the row's number
+-- in the list's region. Document 01, "Rows", CHARGE and RADICAL. Assumes nothing.
 use Prim.Native.Nat.{ℕ, _-_, _≤_, _<_}
 use mathlib.Core.Path.{_≡_}
 use mathlib.Core.Bool.{Bool, true, false}
@@ -10,12 +10,14 @@ use lib.IntN.{ℤ}
 use lib.Dec.{eqb}
 use Rattle.format.specs.Bytes.{Bytes, fields}
 use Rattle.format.specs.Labels.{ListOf, Charges, Radicals}
-use Rattle.format.specs.Rows.{number, natural, signed}
+use Rattle.format.specs.Rows.{Row, number, natural, signed}
 use Rattle.format.specs.Structure.{ranged}
 use Rattle.sorted.specs.Regions.{coded}
 use Rattle.spread.specs.declared.SpreadValue.{SpreadValue}
+use Rattle.spread.specs.declared.SpreadRow.{SpreadRow}
 use Rattle.spread.specs.declared.Member.{Member}
 use Rattle.spread.specs.declared.SpreadValue.the-variants as S
+use Rattle.spread.specs.declared.SpreadRow.the-variants.{Values, Refused}
 use Rattle.spread.specs.declared.Member.the-variants as M
 
 -- CHARGE, whose first field has a sign, or RADICAL
@@ -44,6 +46,16 @@ ShowsValue s w (S.Coded k) = Coding s w k
 
 pub record ValueOf (s : Bool) (w : Bytes) (r : SpreadValue) : Type 0 where
   pub shows : ShowsValue s w r
+
+-- NUMBER AND VALUES of a row's answer, by the shape that its fields have and where the first of them ends: "9 row of the wrong shape", "10 number outside its range", or
+-- the value's code and where the members start
+abbrev pub inRange : (fits : Bool) → (code behind : ℕ) → SpreadRow
+inRange true code behind = Values code behind
+inRange false code behind = Refused 10
+
+abbrev pub spreadAnswer : (signed : Bool) → (behind : ℕ) → Option Row → SpreadRow
+spreadAnswer s behind none = Refused 9
+spreadAnswer s behind (some r) = inRange (ranged (listOf s) (r .value)) (coded (r .value)) behind
 
 -- A member: a field that is a number. One that is none is read as 0: no atom has that number.
 abbrev pub isSome : Option ℕ → Bool

@@ -1,31 +1,43 @@
 // Charge and radical rows: document 01, "Rows". "CHARGE: signed value, -99 to 99 and not 0, then no or more atoms: one charge spread over them. RADICAL: unsigned 1
 // to 15, then the same." One code for both; `signed` tells CHARGE. A row has any number of fields, so that its line is passed over for each test and no field is kept.
+// "A row is answered as its values or a refusal with its reason": the line's reader takes the answer apart and hands a refusal on with the line's place.
 // What no reading lends, another length or a count over its limit, is answered 0, and nothing is touched.
 ghost use mathlib.Core.Path.{_≡_};
 ghost use mathlib.Core.Bool.{Bool, true, false};
 ghost use mathlib.Core.Option.{some};
 ghost use mathlib.Core.List.{List};
-ghost use Prim.Native.Nat.{ℕ, _≤_};
+ghost use Prim.Native.Nat.{ℕ, _≤_, _<_};
 ghost use lib.IntN.{ℤ};
 ghost use lib.ListN.{length, drop};
 ghost use Rattle.lists.specs.Lists.{all};
 ghost use Rattle.format.specs.Bytes.{within, fields};
-ghost use Rattle.format.specs.Rows.{Row, row};
+ghost use Rattle.format.specs.Rows.{Row, row, rowShape};
 ghost use Rattle.format.specs.Structure.{ranged};
+ghost use Rattle.fields.specs.NextFields.{NextField};
 ghost use Rattle.sorted.specs.Steps.{rowAfter, rowStep};
 ghost use Rattle.sorted.specs.Regions.{Fits, coded, spreadRegion};
-ghost use Rattle.sorted.specs.Shown.{ShowsAfter};
-ghost use Rattle.sorted.specs.Keyed.{Untouched};
+ghost use Rattle.sorted.specs.Shown.{ShowsAfter, ShowsLine, LineWithin, LineUntouched};
 ghost use Rattle.sorted.specs.declared.after.RowAfter.the-variants.{Kept};
-ghost use Rattle.spread.specs.Members.{listOf, ShowsValue, ValueOf, isNumber, membersIn, MemberAt, claims, claimed, ShowsClaim};
+ghost use Rattle.spread.specs.Members.{listOf, ShowsValue, ValueOf, spreadAnswer, isNumber, membersIn, MemberAt, claims, claimed, ShowsClaim};
+use fields::Field;
+use format::Table;
 use numbers::Numeral;
 use numbers::SignedNumeral;
+use sorted::after::LineAfter;
 use sorted::after::RowAfter;
+use sorted::after::on_line;
+use sorted::scratch::Scratch;
 
 // The first field: its value as value + 100, 0 where it is beyond its range; or no number.
 pub enum SpreadValue {
     Coded(u32),
     Wrong,
+}
+
+// A row: its value as value + 100 and where its members start, or the refusal's number: 9 no shape, 10 a value beyond its range.
+pub enum SpreadRow {
+    Values(u32, usize),
+    Refused(u32),
 }
 
 // The next field: none, no number, or a number and where it ends.
@@ -189,10 +201,10 @@ fn claim(line: &[u8], at: usize, number: u32, region: &mut [u32]) -> bool
 {
     match member_at(line, at) {
         Member::None => {
-            if region[320] != 0 {
+            if region[Scratch::WITHOUT_ATOMS] != 0 {
                 return false;
             }
-            region[320] = number;
+            region[Scratch::WITHOUT_ATOMS] = number;
             true
         }
         Member::Wrong => false,
@@ -216,52 +228,70 @@ fn add_row(
         return RowAfter::Stop(11);
     }
     let clash = !claim(line, at, count as u32 + 1, region);
-    let full = 64 <= count;
+    let full = Table::CHARGES <= count;
     if clash {
         return RowAfter::Stop(13);
     }
     if full {
         return RowAfter::Stop(14);
     }
-    region[256 + count] = code;
+    region[Table::ATOMS + count] = code;
     RowAfter::Kept(count + 1)
 }
 
-// What a line of CHARGE (signed) or RADICAL leaves of its list, `count` rows there and `atoms` atoms listed; the line is without its comment.
+// The row of a line whose first field is given: "signed value .., then no or more atoms", or "unsigned 1 to 15, then the same".
+fn spread_row(line: &[u8], first: Field, signed: bool) -> SpreadRow
+    requires { ⌜ NextField (now line) 0 first × (first .from < first .to) ⌝ }
+    ensures { λ r. ⌜ r ≡ spreadAnswer signed (first .to) (rowShape (listOf signed) (fields (now (line .entry)))) ⌝ }
+{
+    let from = first.from;
+    let to = first.to;
+    let SpreadValue::Coded(code) = value_of(&line[from..to], signed) else {
+        return SpreadRow::Refused(9);
+    };
+    if !all_numbers(line, to) {
+        return SpreadRow::Refused(9);
+    }
+    if code == 0 {
+        return SpreadRow::Refused(10);
+    }
+    SpreadRow::Values(code, to)
+}
+
+// What a line of CHARGE (signed) or RADICAL leaves of its list, `count` rows there and `atoms` atoms listed. The line is without its comment; `place` is where it
+// stands in its block.
 pub fn spread_line(
     line: &[u8],
+    place: usize,
     signed: bool,
     atoms: usize,
     count: usize,
     region: &mut [u32],
-) -> RowAfter
-    ensures { λ r. ⌜ (length (now (region .exit)) ≡ length (now (region .entry))) × (length (now (region .entry)) ≡ 321 → count ≤ 64 → atoms ≤ 256 → ((c : ℕ) → r ≡ Kept c → c ≤ 64) × ((rs : List Row) → length rs ≡ count → Fits (listOf signed) atoms rs → now (region .entry) ≡ spreadRegion rs →
-        ShowsAfter spreadRegion (now (region .exit)) r (rowStep (listOf signed) atoms rs (fields (now (line .entry))))))
-        × ((length (now (region .entry)) ≡ 321 → count ≤ 64 → atoms ≤ 256 → ⊥) → Untouched (now (region .entry)) (now (region .exit)) r) ⌝ }
+) -> LineAfter
+    ensures { λ r. ⌜ (length (now (region .exit)) ≡ length (now (region .entry))) × (length (now (region .entry)) ≡ 321 → count ≤ 64 → atoms ≤ 256 → LineWithin 64 r × ((rs : List Row) → length rs ≡ count → Fits (listOf signed) atoms rs → now (region .entry) ≡ spreadRegion rs →
+        ShowsLine spreadRegion place (now (region .exit)) r (rowStep (listOf signed) atoms rs (fields (now (line .entry))))))
+        × ((length (now (region .entry)) ≡ 321 → count ≤ 64 → atoms ≤ 256 → ⊥) → LineUntouched place (now (region .entry)) (now (region .exit)) r) ⌝ }
 {
-    if region.len() != 321 {
-        return RowAfter::Stop(0);
+    if region.len() != Scratch::SPREAD {
+        return LineAfter::Refused(0, place);
     }
-    if 64 < count {
-        return RowAfter::Stop(0);
+    if Table::CHARGES < count {
+        return LineAfter::Refused(0, place);
     }
-    if 256 < atoms {
-        return RowAfter::Stop(0);
+    if Table::ATOMS < atoms {
+        return LineAfter::Refused(0, place);
     }
     let first = fields::next_field(line, 0);
-    let from = first.from;
-    let to = first.to;
-    if from == to {
-        return RowAfter::Kept(count);
+    if first.from == first.to {
+        return LineAfter::Kept(count);
     }
-    let SpreadValue::Coded(code) = value_of(&line[from..to], signed) else {
-        return RowAfter::Stop(9);
+    let row = spread_row(line, first, signed);
+    let SpreadRow::Values(code, members) = row else {
+        let SpreadRow::Refused(reason) = row else {
+            return LineAfter::Refused(0, place);
+        };
+        return LineAfter::Refused(reason, place);
     };
-    if !all_numbers(line, to) {
-        return RowAfter::Stop(9);
-    }
-    if code == 0 {
-        return RowAfter::Stop(10);
-    }
-    add_row(line, to, code, atoms, count, region)
+    let after = add_row(line, members, code, atoms, count, region);
+    on_line(after, place)
 }

@@ -1,7 +1,7 @@
 -- The atoms of a table one by one: the atoms that a table holds are those by index, and of the entries that they make, those of the atoms alone and the implied
 -- hydrogens summed beside them have the same keys and sums. Document 01: "with implied hydrogens counted as hydrogen without mass". Assumes nothing.
 use Prim.Native.Nat.{ℕ, zero, suc, _+_, _*_, _≤_, _<_}
-use mathlib.Core.Path.{_≡_, refl, sym, ap, _∙_}
+use mathlib.Core.Path.{_≡_, refl, sym, ap, ap₂, _∙_}
 use mathlib.Core.Bool.{Bool, true, false}
 use mathlib.Core.List.{List, [], _∷_, _++_, map, map-append}
 use native.Mathlib.Nat.{min-eq-left, min-eq-right}
@@ -16,9 +16,10 @@ use Rattle.lists.specs.Lists.{all, any, rowsFrom}
 use Rattle.lists.proofs.ListLaws.{all-nil, all-parts, all-both, all-at, any-nil, any-hit, any-miss}
 use Rattle.lists.proofs.RegionLaws.{rows-zero, rows-length, rows-at, rows-snoc}
 use Rattle.format.specs.Structure.{isotopeOf, Atom, Entry, entry, entriesOf, atomOk}
-use Rattle.format.specs.Table.{cell, countAt, atomAt, atomRecords, decode}
+use Rattle.format.specs.Table.{cell, countAt, atomAt, atomPlace, atomRecords, decode}
 use Rattle.format.proofs.TotalLaws.{share, entries-bare, entries-implied, entries-append, entries-counted}
-use Rattle.tally.specs.Ranks.{keyOf, fine}
+use Rattle.format.proofs.PlaceLaws.{atom-place}
+use Rattle.tally.specs.Ranks.{keyOf, keyOr, fine}
 use Rattle.tally.specs.Gathering.{keyed, sumOf, atomNo, bare, implied, withImplied}
 use Rattle.lists.proofs.IndexLaws.{map-length, map-at}
 use Rattle.tally.proofs.KeyLaws.{hydrogen-fine, atom-fine}
@@ -32,6 +33,19 @@ few-atoms t n e h = e ∙ sym (min-eq-right (omega (arith, e)))
 pub many-atoms : (t : List ℤ) (n : ℕ) → n ≡ cell t 0 → 256 ≤ n → 256 ≡ countAt t 0 256
 unfolding countAt
 many-atoms t n e h = sym (min-eq-left (omega (arith, e)))
+
+-- ONE ATOM, read at its place
+module _ (t : List ℤ) (i p : ℕ) (low : i < 256) (at : p ≡ atomPlace i) where
+  there : p ≡ 16 + 5 * i
+  there = at ∙ atom-place i low
+
+  pub key-read : (e m r : ℕ) → e ≡ cell t p → m ≡ cell t (p + 1) → r ≡ keyOr (isotopeOf e m) → r ≡ keyOr (atomNo t i .kind)
+  unfolding atomNo
+  key-read e m r a b f = f ∙ ap₂ (λ (x y : ℕ). keyOr (isotopeOf x y)) (a ∙ ap (cell t) there) (b ∙ ap (λ (n : ℕ). cell t (n + 1)) there)
+
+  pub implied-read : (r : ℕ) → r ≡ cell t (p + 2) → r ≡ atomNo t i .hydrogens
+  unfolding atomNo
+  implied-read r f = f ∙ ap (λ (n : ℕ). cell t (n + 2)) there
 
 -- THE ATOMS BY INDEX
 abbrev pub atomsTo : List ℤ → ℕ → List Atom

@@ -7,6 +7,9 @@ ghost use Rattle.tally.specs.Ranks.{rankOf, elementOf, keyOr};
 use crate::ranks::ELEMENTS;
 use crate::ranks::RANKS;
 
+// A key is the rank times this, plus the mass: more than the highest mass, so that keys tell rank and mass apart.
+pub const MASSES: u32 = 512;
+
 // An element's rank. Most atoms are C, H, N or O, which are not looked up: a table is laid on the stack where it is read.
 fn rank_of(element: u32) -> u32
     requires { ⌜ (1 ≤ element) × (element ≤ 103) ⌝ }
@@ -57,5 +60,5 @@ pub fn key_of(element: u32, mass: u32) -> u32
     if 300 < mass {
         return 0;
     }
-    512 * rank_of(element) + mass
+    MASSES * rank_of(element) + mass
 }

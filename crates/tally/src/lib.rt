@@ -11,19 +11,27 @@ mod entries; // entries.rt: entries by ascending key
 mod ranks; // ranks.rt: the tables of elements in the formula's order
 
 use cells::cell;
+use elements::MASSES;
 use elements::key_of;
 use entries::add;
 use entries::find;
+use format::Table;
+
+// How many entries there are at most: one for each atom, and one for the implied hydrogens.
+pub const ENTRIES: usize = Table::ATOMS + 1;
+
+// The key of hydrogen without mass, whose rank is 2.
+const HYDROGEN: u32 = 2 * MASSES;
 
 // How many atoms a table has; no more than the list holds.
 fn atom_count(table: &[i32]) -> usize
     ensures { λ r. ⌜ (r ≤ 256) × (r ≡ countAt (now (table .entry)) 0 256) ⌝ }
 {
-    let count = cell(table, 0);
-    if count < 256 {
-        return count as usize;
+    let count = cell(table, Table::ATOM_COUNT) as usize;
+    if count < Table::ATOMS {
+        return count;
     }
-    256
+    Table::ATOMS
 }
 
 // The key of the atom with this index; 0 where no atom of a sound table is of its kind.
@@ -31,7 +39,7 @@ fn key_at(table: &[i32], index: usize) -> u32
     requires { ⌜ index < 256 ⌝ }
     ensures { λ r. ⌜ r ≡ keyOr (atomNo (now (table .entry)) index .kind) ⌝ }
 {
-    let place = 16 + 5 * index;
+    let place = Table::atom(index);
     key_of(cell(table, place), cell(table, place + 1))
 }
 
@@ -40,12 +48,12 @@ fn implied_at(table: &[i32], index: usize) -> u32
     requires { ⌜ index < 256 ⌝ }
     ensures { λ r. ⌜ r ≡ atomNo (now (table .entry)) index .hydrogens ⌝ }
 {
-    cell(table, 16 + 5 * index + 2)
+    cell(table, Table::atom(index) + 2)
 }
 
 // The keys and counts of the formula's entries, in the formula's order, and how many there are: "The formula is one fragment", "C, H, then by symbol, a shorter
 // symbol before its extension; no mass before ascending masses". An atom that no sound table has ends the pass with 0.
-pub fn gather(table: &[i32], keys: &mut [u32; 257], counts: &mut [u32; 257]) -> usize
+pub fn gather(table: &[i32], keys: &mut [u32; ENTRIES], counts: &mut [u32; ENTRIES]) -> usize
     ensures within { λ r. ⌜ r ≤ 257 ⌝ }
     ensures holds { λ r. ⌜ Gathers (now (table .entry)) r (now (keys .exit)) (now (counts .exit)) ⌝ }
 {
@@ -71,6 +79,6 @@ pub fn gather(table: &[i32], keys: &mut [u32; 257], counts: &mut [u32; 257]) -> 
     if hydrogens == 0 {
         return count;
     }
-    let last = find(keys, count, 1, 1024);
-    add(keys, counts, count, last, 1024, hydrogens)
+    let last = find(keys, count, 1, HYDROGEN);
+    add(keys, counts, count, last, HYDROGEN, hydrogens)
 }

@@ -1,5 +1,5 @@
 -- Texts that a table names, as the code tests them: a text is trimmed if and only if as much is kept of it as it has, one of size 0 is fine at place 0 alone, and the
--- three spans stand at 7, 9 and 11. Serves document 01, "Refusal numbers" (21). Assumes nothing.
+-- three spans stand at the places that the table's type answers. Serves document 01, "Refusal numbers" (21). Assumes nothing.
 use Prim.Native.Nat.{ℕ, zero, suc, _+_, _-_, _≤_, _<_}
 use mathlib.Core.Path.{_≡_, refl, sym, ap, ap₂, _∙_}
 use mathlib.Core.Bool.{Bool, true, false, not, _&&_, and-true}
@@ -18,7 +18,7 @@ use Rattle.lists.proofs.PairLaws.{same-differ, bytes-same}
 use Rattle.lists.proofs.RegionLaws.{rows-suc, rows-zero}
 use Rattle.format.specs.Bytes.{Bytes, same, allowed, hash, isLabel, trim, unlabelled}
 use Rattle.format.specs.Reading.{Span}
-use Rattle.format.specs.Table.{cell, spanAt, spansOf, textFine, textAt, textOk, spanOk}
+use Rattle.format.specs.Table.{cell, textPlace, spanAt, spansOf, textFine, textAt, textOk, spanOk}
 use Rattle.format.proofs.ByteLaws.{allowed-seen, allowed-high, label-at, label-at-end, unlabelled-cons, unlabelled-at-end}
 use Rattle.format.proofs.TextLaws.{trim-nil}
 use Rattle.fields.specs.declared.Field.{Field}
@@ -147,17 +147,22 @@ span-at t at =
 pub named-is : (b : Bytes) (t : List ℤ) (at p n : ℕ) → p ≡ cell t at → n ≡ cell t (at + 1) → textOk b (span p n) ≡ textOk b (spanAt (drop at t))
 named-is b t at p n e f = ap (λ (k : ℕ). textOk b (span k n)) e ∙ ap (λ (k : ℕ). textOk b (span (cell t at) k)) f ∙ ap (textOk b) (span-at t at)
 
-spans-are : (t : List ℤ) → spansOf t ≡ spanAt (drop 7 t) ∷ spanAt (drop 9 t) ∷ spanAt (drop 11 t) ∷ []
-unfolding spansOf
+spans-are : (t : List ℤ) → spansOf t ≡ spanAt (drop (textPlace 0) t) ∷ spanAt (drop (textPlace 1) t) ∷ spanAt (drop (textPlace 2) t) ∷ []
+unfolding spansOf textPlace
 spans-are t =
     rows-suc 2 spanAt 2 (drop 7 t) ∙ rw (rows-suc 2 spanAt 1 (drop 2 (drop 7 t)), rows-suc 2 spanAt 0 (drop 2 (drop 2 (drop 7 t))), rows-zero 2 spanAt (drop 2 (drop 2 (drop 2 (drop 7 t)))), drop-drop 2 7 t, drop-drop 2 9 t)
 
-module _ (p : Span → Bool) (t : List ℤ) where
-  pub first-out : p (spanAt (drop 7 t)) ≡ false → all p (spansOf t) ≡ false
-  first-out e = ap (all p) (spans-are t) ∙ all-out p _ _ e
+-- tested at the places that the table's type answers
+module _ (p : Span → Bool) (t : List ℤ) (a : ℕ) (x : a ≡ textPlace 0) where
+  stood : (m n : ℕ) (r : Bool) → m ≡ n → p (spanAt (drop m t)) ≡ r → p (spanAt (drop n t)) ≡ r
+  stood m n r q e = ap (λ (k : ℕ). p (spanAt (drop k t))) (sym q) ∙ e
 
-  pub second-out : p (spanAt (drop 7 t)) ≡ true → p (spanAt (drop 9 t)) ≡ false → all p (spansOf t) ≡ false
-  second-out e f = ap (all p) (spans-are t) ∙ all-in p _ _ e ∙ all-out p _ _ f
+  pub first-out : p (spanAt (drop a t)) ≡ false → all p (spansOf t) ≡ false
+  first-out e = ap (all p) (spans-are t) ∙ all-out p _ _ (stood _ _ _ x e)
 
-  pub third-is : p (spanAt (drop 7 t)) ≡ true → p (spanAt (drop 9 t)) ≡ true → all p (spansOf t) ≡ p (spanAt (drop 11 t))
-  third-is e f = ap (all p) (spans-are t) ∙ all-in p _ _ e ∙ all-in p _ _ f ∙ all-one p _
+  module _ (e : p (spanAt (drop a t)) ≡ true) (b : ℕ) (y : b ≡ textPlace 1) where
+    pub second-out : p (spanAt (drop b t)) ≡ false → all p (spansOf t) ≡ false
+    second-out f = ap (all p) (spans-are t) ∙ all-in p _ _ (stood _ _ _ x e) ∙ all-out p _ _ (stood _ _ _ y f)
+
+    pub third-is : p (spanAt (drop b t)) ≡ true → (c : ℕ) → c ≡ textPlace 2 → all p (spansOf t) ≡ p (spanAt (drop c t))
+    third-is f c z = ap (all p) (spans-are t) ∙ all-in p _ _ (stood _ _ _ x e) ∙ all-in p _ _ (stood _ _ _ y f) ∙ all-one p _ ∙ ap (λ (k : ℕ). p (spanAt (drop k t))) (sym z)

@@ -96,11 +96,11 @@ fn named(table: &[i32], bytes: &[u8], at: usize) -> bool
 pub fn texts_fine(table: &[i32], bytes: &[u8]) -> bool
     ensures { λ r. ⌜ r ≡ all (textOk (now (bytes .entry))) (spansOf (now (table .entry))) ⌝ }
 {
-    if !named(table, bytes, Table::FIRST_TEXT) {
+    if !named(table, bytes, Table::text(0)) {
         return false;
     }
-    if !named(table, bytes, Table::FIRST_TEXT + 2) {
+    if !named(table, bytes, Table::text(1)) {
         return false;
     }
-    named(table, bytes, Table::FIRST_TEXT + 4)
+    named(table, bytes, Table::text(2))
 }

@@ -2,7 +2,7 @@
 // hydrogens counted as hydrogen without mass." The atoms are tallied, each entry of the formula is taken from the tally, and nothing may be left. Atoms without
 // mass are counted by element; each atom with a mass has a cell of two lists, its element and its mass.
 ghost use mathlib.Core.Path.{_≡_};
-ghost use mathlib.Core.Bool.{true, _&&_};
+ghost use mathlib.Core.Bool.{true, false, _&&_};
 ghost use mathlib.Core.List.{List, []};
 ghost use Prim.Native.Nat.{ℕ, _+_, _<_, _≤_};
 ghost use lib.ListN.{length, getD, set, drop};
@@ -16,6 +16,7 @@ ghost use Rattle.gather.specs.Progress.{entriesFrom, entryFine};
 ghost use Rattle.totals.specs.Taking.{TookByte, TookLead};
 ghost use Rattle.totals.specs.Left.{leftOf, isZero, Blank, Adds, Takes, Took, Counts, Says, Tallied, Answered, cellOf};
 use elements::isotope_of;
+use format::Table;
 use formula::Close;
 use formula::Move;
 use formula::State;
@@ -23,6 +24,7 @@ use formula::entry::QuickEntry;
 use formula::entry::quick_entry;
 use formula::formula_end;
 use formula::formula_step;
+use sorted::scratch::Scratch;
 use symbols::Mark;
 
 // The machine behind a byte, the entry taken that ended there; or that an entry asks for more than is left.
@@ -110,7 +112,7 @@ fn strike(element: u32, mass: u32, count: u32, elements: &[u32], masses: &mut [u
 {
     let mut owed = count;
     let mut place = 0;
-    while place < 256 {
+    while place < Table::ATOMS {
         if owed == 0 {
             return true;
         }
@@ -305,23 +307,25 @@ fn take_formula(
 }
 
 // Whether formula and atoms agree: "for every element and mass, the formula's total over all fragments equals the atoms listed". `formula` is MOLFORM's value
-// without its comment; `kinds` has element, mass and implied hydrogens of each atom.
+// without its comment; `kinds` has element, mass and implied hydrogens of each atom. The answer is no where that has another length, and where there are more
+// atoms than a table holds or more elements than 103.
 pub fn agrees(formula: &[u8], kinds: &[u32], atoms: usize, last: u32) -> bool
-    ensures { λ r. ⌜ ((listed : List Atom) → length (now (kinds .entry)) ≡ 768 → 0 < atoms → atoms ≤ 256 → last ≤ 103 → length listed ≡ atoms → now (kinds .entry) ≡ kindsRegion listed → all (atomOk last) listed ≡ true → all (entryFine last) (entriesFrom last (formulaShape (now (formula .entry)))) ≡ true →
+    ensures told { λ r. ⌜ ((listed : List Atom) → length (now (kinds .entry)) ≡ 768 → 0 < atoms → atoms ≤ 256 → last ≤ 103 → length listed ≡ atoms → now (kinds .entry) ≡ kindsRegion listed → all (atomOk last) listed ≡ true → all (entryFine last) (entriesFrom last (formulaShape (now (formula .entry)))) ≡ true →
         r ≡ agree (entriesFrom last (formulaShape (now (formula .entry)))) (entriesOf listed)) ⌝ }
+    ensures beyond { λ r. ⌜ (((length (now (kinds .entry)) ≡ 768) × (atoms ≤ 256) × (last ≤ 103) → ⊥) → r ≡ false) ⌝ }
 {
-    if kinds.len() != 768 {
+    if kinds.len() != Scratch::KINDS {
         return false;
     }
-    if 256 < atoms {
+    if Table::ATOMS < atoms {
         return false;
     }
     if 103 < last {
         return false;
     }
     let mut counts = [0u32; 104];
-    let mut elements = [0u32; 256];
-    let mut masses = [0u32; 256];
+    let mut elements = [0u32; Table::ATOMS];
+    let mut masses = [0u32; Table::ATOMS];
     tally(kinds, atoms, &mut counts, &mut elements, &mut masses);
     take_formula(formula, last, &mut counts, &elements, &mut masses)
 }

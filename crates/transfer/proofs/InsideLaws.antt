@@ -12,7 +12,7 @@ use Rattle.lists.specs.Lists.{concat}
 use Rattle.lists.proofs.PartLaws.{concat-length}
 use Rattle.format.specs.Bytes.{Bytes, cut, lineLen}
 use Rattle.format.specs.Labels.{titleLine, endLine}
-use Rattle.format.specs.Walking.{Piece, Mode, outside, inBlock, inStray, close, ended, next, run, Walked, Found, Finished, NotWalked, firstOf, walkedAs, walkAt}
+use Rattle.format.specs.Walking.{Piece, Mode, outside, inBlock, inStray, close, ended, next, run, Walked, Found, Finished, NotWalked, firstOf, walkedAs, walkAt, What, aPiece, theEnd, aRefusal, WalkResult, walkResult}
 use Rattle.format.proofs.CutLaws.{concat-cut, lineLen-le, lineLen-pos}
 use Rattle.format.proofs.WalkLaws.{ahead, ahead-end, walk-ahead, run-cons, run-none, first-title, first-other}
 use Rattle.transfer.specs.declared.walks.Walked as declared
@@ -51,11 +51,17 @@ within-run m at (l ∷ ls) =
     by on false true (inBlock s) = (omega arith, omega (arith, concat-length l ls))
     by on false false (inBlock s) = on (inBlock s)
 
--- a piece that is found ends behind the place and within the file, which is not too long
+-- an answer that is a piece ends behind the place and within the file, which is not too long
+abbrev pub EndsIn : Bytes → (place end : ℕ) → What → Type 0
+EndsIn s place end (aPiece k) = (place < end) × (end ≤ length s) × (length s ≤ 16777216)
+EndsIn s place end theEnd = Unit {0}
+EndsIn s place end aRefusal = Unit {0}
+
+abbrev pub Ends : Bytes → (place : ℕ) → WalkResult → Type 0
+Ends s place r = EndsIn s place (r .end) (r .what)
+
 abbrev pub Inside : Bytes → (place : ℕ) → Walked → Type 0
-Inside s place (Found p) = (place < p .to) × (p .to ≤ length s) × (length s ≤ 16777216)
-Inside s place Finished = Unit {0}
-Inside s place (NotWalked n) = Unit {0}
+Inside s place w = Ends s place (walkResult w)
 
 module _ (s : Bytes) (place : ℕ) where
   narrowed : (e : ℕ) (w : Walked) → place < e → length s ≤ 16777216 → Within e (length s) w → Inside s place w
@@ -96,13 +102,13 @@ module _ (s : Bytes) (place : ℕ) where
       by false false l = at (ltb-false 16777216 (length s) l) (ltb place (length s)) refl
 
   -- the same of the code's answer
-  pub shown-inside : (r k : declared.Walked) → shown r ≡ walkAt s place → r ≡ k → Inside s place (shown k)
-  shown-inside r k h e = subst (Inside s place) (sym h ∙ ap shown e) walk-inside
+  shown-inside : (r k : declared.Walked) → shown r ≡ walkResult (walkAt s place) → r ≡ k → Ends s place (shown k)
+  shown-inside r k h e = subst (Ends s place) (sym h ∙ ap shown e) walk-inside
 
-  pub block-inside : (r : declared.Walked) (from to : ℕ) → shown r ≡ walkAt s place → r ≡ W.Block from to → (place < to) × (to ≤ length s) × (length s ≤ 16777216)
+  pub block-inside : (r : declared.Walked) (from to : ℕ) → shown r ≡ walkResult (walkAt s place) → r ≡ W.Block from to → (place < to) × (to ≤ length s) × (length s ≤ 16777216)
   unfolding shown
   block-inside r from to h e = shown-inside r (W.Block from to) h e
 
-  pub stray-inside : (r : declared.Walked) (from to : ℕ) → shown r ≡ walkAt s place → r ≡ W.Stray from to → (place < to) × (to ≤ length s) × (length s ≤ 16777216)
+  pub stray-inside : (r : declared.Walked) (from to : ℕ) → shown r ≡ walkResult (walkAt s place) → r ≡ W.Stray from to → (place < to) × (to ≤ length s) × (length s ≤ 16777216)
   unfolding shown
   stray-inside r from to h e = shown-inside r (W.Stray from to) h e

@@ -21,7 +21,7 @@ use Rattle.fields.specs.declared.Field.{Field}
 use Rattle.fields.specs.NextFields.{fieldIn}
 use Rattle.fields.specs.Trims.{Trimmed}
 use Rattle.transfer.specs.Skipping.{skipped}
-use Rattle.transfer.specs.Texts.{textTo, TextEnd, ValueAt, Titled}
+use Rattle.transfer.specs.Texts.{textTo, TextEnd, ValueAt, titleStart, Titled, Named}
 use Rattle.transfer.proofs.SkipLaws.{skip-plain}
 
 -- WHERE A TEXT ENDS: at the first label line
@@ -115,7 +115,7 @@ slice-join b from e to h k l =
     ∙ ap (λ (i : ℕ). drop from (take e b) ++ take i (drop e b)) r
 
 -- THE TITLE
-abbrev part : (from to : ℕ) → Field
+abbrev pub part : (from to : ℕ) → Field
 part a b = record { from = a; to = b }
 
 module _ (b : Bytes) (e : ℕ) (q : e ≡ 0 + lineLen (drop 0 b)) where
@@ -190,17 +190,23 @@ or-some [] w h = absurd (omega arith)
 or-some (x ∷ t) w h = refl
 
 module _ (b w : Bytes) (r : Field) (k : Titled b r) where
-  -- "where the title is empty"
-  pub name-empty : r .from ≡ r .to → nameOf b w ≡ w
-  unfolding nameOf
-  name-empty f =
-      let n : r .to - r .from ≡ 0 = omega arith in
-      let p : titleOf (cut b) ≡ [] = sym (k .is) ∙ ap (λ (i : ℕ). take i (drop (r .from) b)) n in
-      ap (λ (t : Bytes). orElse t w) p
-
   pub title-size : length (titleOf (cut b)) ≡ r .to - r .from
   title-size = ap length (sym (k .is)) ∙ length-take-le (r .to - r .from) (drop (r .from) b) (omega (arith, k .order, k .high, length-drop (r .from) b))
 
-  pub name-shown : (r .from ≡ r .to → ⊥) → fieldIn b r ≡ nameOf b w
+  -- the part that the definitions name is the title
+  part-is : take (length (titleOf (cut b))) (drop (titleStart (cut b)) b) ≡ titleOf (cut b)
+  part-is = ap₂ (λ (i j : ℕ). take i (drop j b)) title-size (sym (k .start)) ∙ k .is
+
+  named : (n : Bytes) → n ≡ orElse (titleOf (cut b)) w → Named b w n
   unfolding nameOf
-  name-shown f = k .is ∙ sym (or-some (titleOf (cut b)) w (omega (arith, title-size, k .order)))
+  named n e = record { is = e; part = e ∙ ap (λ (t : Bytes). orElse t w) (sym part-is) }
+
+  -- "where the title is empty"
+  pub name-empty : r .from ≡ r .to → Named b w w
+  name-empty f =
+      let n : r .to - r .from ≡ 0 = omega arith in
+      let p : [] ≡ titleOf (cut b) = ap (λ (i : ℕ). take i (drop (r .from) b)) (sym n) ∙ k .is in
+      named w (ap (λ (t : Bytes). orElse t w) p)
+
+  pub name-shown : (r .from ≡ r .to → ⊥) → Named b w (fieldIn b r)
+  name-shown f = named (fieldIn b r) (k .is ∙ sym (or-some (titleOf (cut b)) w (omega (arith, title-size, k .order))))

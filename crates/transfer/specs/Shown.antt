@@ -1,10 +1,10 @@
 -- What the walk's answer says: document 01, "Walking a transfer file". Assumes nothing.
-use Rattle.format.specs.Walking as walking
+use Rattle.format.specs.Walking.{block, stray, aPiece, theEnd, aRefusal, WalkResult, walkAnswer}
 use Rattle.transfer.specs.declared.walks.Walked.{Walked}
 use Rattle.transfer.specs.declared.walks.Walked.the-variants as W
 
-unfoldable pub shown : Walked → walking.Walked
-shown (W.Block from to) = walking.Found (walking.piece walking.block from to)
-shown (W.Stray from to) = walking.Found (walking.piece walking.stray from to)
-shown W.Finished = walking.Finished
-shown (W.Refused n) = walking.NotWalked n
+unfoldable pub shown : Walked → WalkResult
+shown (W.Block from to) = walkAnswer (aPiece block) 0 from to
+shown (W.Stray from to) = walkAnswer (aPiece stray) 0 from to
+shown W.Finished = walkAnswer theEnd 0 0 0
+shown (W.Refused n) = walkAnswer aRefusal n 0 0

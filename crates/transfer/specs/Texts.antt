@@ -4,10 +4,10 @@ use Prim.Native.Nat.{ℕ, _+_, _-_, _≤_}
 use mathlib.Core.Path.{_≡_}
 use mathlib.Core.Bool.{Bool, true, false}
 use mathlib.Core.List.{List, [], _∷_, _++_}
-use lib.ListN.{length, drop}
+use lib.ListN.{length, take, drop}
 use Rattle.format.specs.Bytes.{Bytes, cut, lead}
 use Rattle.format.specs.Labels.{lineOf, titleLine}
-use Rattle.format.specs.Walking.{untilLabel, valueOf, titleOf}
+use Rattle.format.specs.Walking.{untilLabel, valueOf, titleOf, orElse, nameOf}
 use Rattle.fields.specs.declared.Field.{Field}
 use Rattle.fields.specs.NextFields.{fieldIn}
 
@@ -41,3 +41,8 @@ pub record Titled (block : Bytes) (r : Field) : Type 0 where
   pub start : r .from ≡ titleStart (cut block)
   pub order : r .from ≤ r .to
   pub high : r .to ≤ length block
+
+-- n is the name to show: the definitions' name; and its bytes are those from the title's start on, as many as the title has, or the stand-in's where it has none
+pub record Named (block standIn n : Bytes) : Type 0 where
+  pub is : n ≡ nameOf block standIn
+  pub part : n ≡ orElse (take (length (titleOf (cut block))) (drop (titleStart (cut block)) block)) standIn

@@ -1,8 +1,7 @@
 // The name to show for a block: document 01, "Walking a transfer file".
 ghost use mathlib.Core.Path.{_≡_};
 ghost use Rattle.format.specs.Bytes.{isLabel};
-ghost use Rattle.format.specs.Walking.{nameOf};
-ghost use Rattle.transfer.specs.Texts.{TextEnd, Titled, ValueAt};
+ghost use Rattle.transfer.specs.Texts.{Named, TextEnd, Titled, ValueAt};
 use fields::Field;
 use labels::LineKind;
 
@@ -65,7 +64,7 @@ pub fn title(block: &[u8]) -> Field
 
 // The title of the block, or the stand-in, both lent for one time.
 fn title_or<'a>(block: &'a [u8], stand_in: &'a [u8]) -> &'a [u8]
-    ensures { λ r. ⌜ now r ≡ nameOf (now (block .entry)) (now (stand_in .entry)) ⌝ }
+    ensures { λ r. ⌜ Named (now (block .entry)) (now (stand_in .entry)) (now r) ⌝ }
 {
     let part = title(block);
     let first = part.from;
@@ -79,7 +78,7 @@ fn title_or<'a>(block: &'a [u8], stand_in: &'a [u8]) -> &'a [u8]
 // "The name to show is a part of the block, its title, or the caller's stand-in bytes where the title is empty or the first line is no TITLE line." The block
 // may be lent for longer than the stand-in; the name is lent for as long as both are.
 pub fn name<'a, 'b: 'a>(block: &'b [u8], stand_in: &'a [u8]) -> &'a [u8]
-    ensures { λ r. ⌜ now r ≡ nameOf (now (block .entry)) (now (stand_in .entry)) ⌝ }
+    ensures { λ r. ⌜ Named (now (block .entry)) (now (stand_in .entry)) (now r) ⌝ }
 {
     title_or(block, stand_in)
 }

@@ -1,9 +1,10 @@
 // The walk of a transfer file: document 01, "Walking a transfer file".
 ghost use mathlib.Core.Path.{_≡_};
-ghost use Rattle.format.specs.Walking.{walkAt, inBlock, inStray, Found, piece, block, stray};
+ghost use Rattle.format.specs.Walking.{walkAt, walkResult, inBlock, inStray, Found, piece, block, stray};
 ghost use Rattle.format.proofs.WalkLaws.{ahead};
 ghost use Rattle.transfer.specs.Codes.{Coded};
 ghost use Rattle.transfer.specs.Shown.{shown};
+use format::Table;
 use labels::LineKind;
 
 // What the walk finds: a block or a stray run, each from its first byte up to a place, or the end of the file, or a refusal.
@@ -62,9 +63,9 @@ fn stray_end(file: &[u8], place: usize, at: usize) -> usize
 // The piece from `place` on. "The walk takes a file and a place, and treats the bytes from the place as a file, counting its answers in the whole one. Over
 // 16,777,216 bytes: refusal 31. Place beyond the end: 32. At the end: finished." "31 comes first."
 pub fn walk(file: &[u8], place: usize) -> Walked
-    ensures { λ r. ⌜ shown r ≡ walkAt (now (file .entry)) place ⌝ }
+    ensures { λ r. ⌜ shown r ≡ walkResult (walkAt (now (file .entry)) place) ⌝ }
 {
-    if 16777216 < file.len() {
+    if Table::FILE < file.len() {
         return Walked::Refused(31);
     }
     if file.len() < place {

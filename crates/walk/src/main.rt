@@ -3,6 +3,7 @@
 ghost use Prim.Native.Nat.{_≤_, _<_};
 ghost use mathlib.Core.Path.{_≡_};
 ghost use lib.ListN.{length};
+use format::Table;
 use reader::Answer;
 use transfer::walks::Walked;
 
@@ -23,8 +24,8 @@ fn print_behind(n: u64) {
 fn print_reading(number: u32, place: usize, table: &[i32]) {
     print_behind(number as u64);
     print_behind(place as u64);
-    print_behind(cells::cell(table, 0) as u64);
-    print_behind(cells::cell(table, 1) as u64);
+    print_behind(cells::cell(table, Table::ATOM_COUNT) as u64);
+    print_behind(cells::cell(table, Table::BOND_COUNT) as u64);
     io::write_all(1, &[b'\n']);
 }
 
@@ -35,7 +36,7 @@ fn print_block(file: &[u8], start: usize, end: usize)
     io::write_all(1, &[b'B']);
     print_behind(start as u64);
     print_behind(end as u64);
-    let mut table = [0i32; 3856];
+    let mut table = [0i32; Table::SIZE];
     let answer = reader::read(&file[start..end], &mut table);
     match answer {
         Answer::Accepted => {

@@ -1,5 +1,5 @@
--- The writer's promise allows one answer and one buffer: document 01, "that two allowed answers are equal is proved". No form is empty, so that a count of 0 is a
--- refusal's. Assumes nothing.
+-- The writer's promise allows one answer and one buffer: document 01, "that two allowed answers are equal is proved". `Written 0` and `Refused 0` show the same
+-- result; the definition has no such result, since no form is empty and no refusal's number is 0, so that the promise by itself tells the case. Assumes nothing.
 use Prim.Native.Nat.{ℕ, zero, suc, _+_, _<_}
 use mathlib.Core.Path.{_≡_, refl, sym, ap, _∙_, subst}
 use mathlib.Core.Bool.{Bool, true, false}
@@ -25,7 +25,7 @@ form-some : (t : List ℤ) (b : Bytes) → 0 < length (formOf t b)
 unfolding formOf canonical records concat
 form-some t b = title-some _ _
 
--- A RESULT tells its case
+-- A RESULT tells its case: its number or its count is not 0
 abbrev weight : WriteResult → ℕ
 weight w = w .number + w .count
 
@@ -56,6 +56,7 @@ back (Written n) b h = refl
 back (Refused zero) b h = absurd (omega arith)
 back (Refused (suc n)) b h = refl
 
+-- ANY TWO ANSWERS that keep the promise, with what each leaves in the buffer
 pub one-answer : (t : List ℤ) (b buffer : Bytes) (r q : Answer) (later after : Bytes) → shown r later ≡ writeResult 103 t b buffer → shown q after ≡ writeResult 103 t b buffer → (r ≡ q) × (later ≡ after)
 one-answer t b buffer r q later after e f =
     let h : 0 < weight (shown r later) = subst (λ w. 0 < weight w) (sym e) (result-some t b buffer) in

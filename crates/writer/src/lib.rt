@@ -9,7 +9,11 @@ use form::put_form;
 use format::Table;
 use printing::put_text;
 use soundness::is_sound;
+use tally::ENTRIES;
 use tally::gather;
+
+// How many bytes the draft holds: most forms are shorter.
+const DRAFT: usize = 4096;
 
 // How many bytes were written, or the refusal's number: 1, 21, 23, 22.
 pub enum Answer {
@@ -23,10 +27,10 @@ fn write_sound(table: &[i32], bytes: &[u8], buffer: &mut [u8]) -> Answer
     requires { ⌜ 3856 ≤ length (now table) ⌝ }
     ensures { λ r. ⌜ SoundWritten (now (table .entry)) (now (bytes .entry)) (now (buffer .entry)) r (now (buffer .exit)) ⌝ }
 {
-    let mut keys = [0u32; 257];
-    let mut counts = [0u32; 257];
+    let mut keys = [0u32; ENTRIES];
+    let mut counts = [0u32; ENTRIES];
     let entries = gather(table, &mut keys, &mut counts);
-    let mut draft = [0u8; 4096];
+    let mut draft = [0u8; DRAFT];
     let size = put_form(&mut draft, table, bytes, &keys, &counts, entries);
     if Table::BLOCK < size {
         return Answer::Refused(23);
@@ -34,7 +38,7 @@ fn write_sound(table: &[i32], bytes: &[u8], buffer: &mut [u8]) -> Answer
     if buffer.len() < size {
         return Answer::Refused(22);
     }
-    if size <= 4096 {
+    if size <= DRAFT {
         put_text(buffer, 0, &draft[0..size]);
         return Answer::Written(size);
     }

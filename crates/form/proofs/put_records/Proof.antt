@@ -1,6 +1,7 @@
 -- `form::put_records` meets its contract. Assumes nothing.
 use mathlib.Core.Path.{_∙_}
 use Rattle.format.specs.Bytes.{bytes}
+use Rattle.format.specs.Table.{textPlace}
 use Rattle.format.specs.Writing.{valued, printRecord}
 use Rattle.form.proofs.FormLaws.{form-laid}
 use borrow.Author.Needs.{needs}
@@ -22,17 +23,11 @@ put-text-requires c κs = search needs
 slice-aggregate-put-span-2 : tie.Need-slice-aggregate-put-span-2
 slice-aggregate-put-span-2 c = search needs
 
-add-put-span : tie.Need-add-put-span
-add-put-span c = search needs
-
 put-span-requires-2 : tie.Need-put-span-requires-2
 put-span-requires-2 c κs = search needs
 
 slice-aggregate-put-span-3 : tie.Need-slice-aggregate-put-span-3
 slice-aggregate-put-span-3 c = search needs
-
-add-put-span-2 : tie.Need-add-put-span-2
-add-put-span-2 c = search needs
 
 put-span-requires-3 : tie.Need-put-span-requires-3
 put-span-requires-3 c κs = search needs
@@ -68,7 +63,7 @@ same-length : tie.Need-same-length
 same-length c = c .before .before .put-text3 .kept .0 ∙ c .before .before .before .before .before .before .before .put-lists .kept .0 ∙ c .before .before .before .before .before .before .before .before .before .before .before .put-atoms .kept .0 ∙ c .before .before .before .before .before .before .before .before .before .before .before .before .before .before .before .put-text2 .kept .0 ∙ c .before .before .before .before .before .before .before .before .before .before .before .before .before .before .before .before .before .before .before .before .put-formula .kept .0 ∙ c .before .before .before .before .before .before .before .before .before .before .before .before .before .before .before .before .before .before .before .before .before .before .before .before .put-id .kept .0 ∙ c .before .before .before .before .before .before .before .before .before .before .before .before .before .before .before .before .before .before .before .before .before .before .before .before .before .before .before .before .before .put-span3 .kept .0 ∙ c .before .before .before .before .before .before .before .before .before .before .before .before .before .before .before .before .before .before .before .before .before .before .before .before .before .before .before .before .before .before .before .before .before .before .put-span2 .kept .0 ∙ c .before .before .before .before .before .before .before .before .before .before .before .before .before .before .before .before .before .before .before .before .before .before .before .before .before .before .before .before .before .before .before .before .before .before .before .before .before .before .before .put-text .kept .0 ∙ c .before .before .before .before .before .before .before .before .before .before .before .before .before .before .before .before .before .before .before .before .before .before .before .before .before .before .before .before .before .before .before .before .before .before .before .before .before .before .before .before .before .before .before .before .put-span .kept .0
 
 returns : tie.Need-returns
-unfolding bytes valued printRecord
+unfolding bytes valued printRecord textPlace
 returns c = form-laid (c .before .before .before .before .before .before .before .before .before .before .before .before .before .before .before .before .before .before .before .before .before .before .before .before .before .before .before .before .before .before .before .before .before .before .before .before .before .before .before .before .before .before .before .before .before .before .before .before .before .args .table .now) (c .before .before .before .before .before .before .before .before .before .before .before .before .before .before .before .before .before .before .before .before .before .before .before .before .before .before .before .before .before .before .before .before .before .before .before .before .before .before .before .before .before .before .before .before .before .before .before .before .before .args .bytes .now) _ (c .before .before .before .before .before .before .before .before .before .before .before .before .before .before .before .before .before .before .before .before .before .before .before .before .before .before .before .before .before .before .before .before .before .before .before .before .before .before .before .before .before .before .before .before .before .before .before .before .before .args .keys .now) (c .before .before .before .before .before .before .before .before .before .before .before .before .before .before .before .before .before .before .before .before .before .before .before .before .before .before .before .before .before .before .before .before .before .before .before .before .before .before .before .before .before .before .before .before .before .before .before .before .before .args .counts .now) _ (c .before .before .before .before .before .before .before .before .before .before .before .before .before .before .before .before .before .before .before .before .before .before .before .before .before .cell .ensures) (c .before .before .before .before .before .before .before .before .before .before .before .before .before .before .before .before .before .before .before .before .before .before .before .before .before .before .before .before .before .before .before .before .before .before .before .before .before .before .before .before .before .before .before .before .put-span .ensures) (c .before .before .before .before .before .before .before .before .before .before .before .before .before .before .before .before .before .before .before .before .before .before .before .before .before .before .before .before .before .before .before .before .before .before .before .before .before .before .before .put-text .ensures) (c .before .before .before .before .before .before .before .before .before .before .before .before .before .before .before .before .before .before .before .before .before .before .before .before .before .before .before .before .before .before .before .before .before .before .put-span2 .ensures) (c .before .before .before .before .before .before .before .before .before .before .before .before .before .before .before .before .before .before .before .before .before .before .before .before .before .before .before .before .before .put-span3 .ensures) (c .before .before .before .before .before .before .before .before .before .before .before .before .before .before .before .before .before .before .before .before .before .before .before .before .put-id .ensures) (c .before .before .before .before .before .before .before .before .before .before .before .before .before .before .before .before .before .before .before .before .put-formula .ensures) (c .before .before .before .before .before .before .before .before .before .before .before .before .before .before .before .put-text2 .ensures) (c .before .before .before .before .before .before .before .before .before .before .before .put-atoms .ensures) (c .before .before .before .before .before .before .before .put-lists .ensures) (c .before .before .put-text3 .ensures)
 
 pub put-records-spec : {M : Type 1} → statement M
@@ -80,10 +75,8 @@ put-records-spec =
     slice-aggregate-put-text
     put-text-requires
     slice-aggregate-put-span-2
-    add-put-span
     put-span-requires-2
     slice-aggregate-put-span-3
-    add-put-span-2
     put-span-requires-3
     cell-requires
     put-id-requires

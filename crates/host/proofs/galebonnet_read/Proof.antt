@@ -22,19 +22,19 @@ mul-result : tie.Need-mul-result
 mul-result c = search needs
 
 add-result : tie.Need-add-result
-add-result c = omega (arith, place-fits _ _ _ _ _ _ (c .before .before .before .before .read .ensures) (c .before .answer .given .1))
+add-result c = omega (arith, place-fits _ _ _ _ _ _ (c .before .before .before .before .read .ensures .0) (c .before .answer .given .1))
 
 same-length : tie.Need-same-length
 same-length c = search needs
 
 returns : tie.Need-returns
-returns c = (read-packed _ _ _ _ (c .before .before .before .read .ensures) (c .enum-told .given .1), read-table _ _ _ _ (c .before .before .before .read .ensures) (c .enum-told .given .1))
+returns c = (read-packed _ _ _ _ (c .before .before .before .read .ensures .0) (c .enum-told .given .1), read-table _ _ _ _ (c .before .before .before .read .ensures .0) (c .enum-told .given .1))
 
 same-length-2 : tie.Need-same-length-2
 same-length-2 c = search needs
 
 returns-2 : tie.Need-returns-2
-returns-2 c = (read-packed _ _ _ _ (c .before .before .before .before .read .ensures) (c .before .answer .given .1), read-table _ _ _ _ (c .before .before .before .before .read .ensures) (c .before .answer .given .1))
+returns-2 c = (read-packed _ _ _ _ (c .before .before .before .before .read .ensures .0) (c .before .answer .given .1), read-table _ _ _ _ (c .before .before .before .before .read .ensures .0) (c .before .answer .given .1))
 
 pub galebonnet-read-spec : {M : Type 1} → statement M
 galebonnet-read-spec =

@@ -1,11 +1,12 @@
 -- The walk packed: each kind of answer is one case. Assumes nothing.
-use mathlib.Core.Path.{sym, _∙_}
+use mathlib.Core.Path.{sym, ap, _∙_}
 use native.Mathlib.Nat.{add-zero}
 use native.Mathlib.Omega.{arith}
 use borrow.Author.Needs.{needs}
 use Rattle.transfer.specs.Shown.{shown}
 use Rattle.transfer.proofs.InsideLaws.{block-inside, stray-inside}
-use Rattle.host.proofs.PackLaws.{walk-packed}
+use Rattle.transfer.proofs.OneAnswer.{walk-told}
+use Rattle.host.specs.Packed.{packedWalk}
 use Rattle.host.proofs.galebonnet_walk.Statement.{statement}
 use Rattle.host.proofs.galebonnet_walk.Tie as tie
 
@@ -38,19 +39,19 @@ mul-result c = search needs
 
 returns : tie.Need-returns
 unfolding shown
-returns c = walk-packed _ _ _ _ (c .before .before .before .walk .ensures) (c .before .walked .given .1)
+returns c = ap packedWalk (walk-told _ _ _ (c .before .before .before .walk .ensures) _ (c .before .walked .given .1))
 
 returns-2 : tie.Need-returns-2
 unfolding shown
-returns-2 c = walk-packed _ _ _ _ (c .before .before .before .walk .ensures) (c .before .walked2 .given .1)
+returns-2 c = ap packedWalk (walk-told _ _ _ (c .before .before .before .walk .ensures) _ (c .before .walked2 .given .1))
 
 returns-3 : tie.Need-returns-3
 unfolding shown
-returns-3 c = walk-packed _ _ _ _ (c .before .before .walk .ensures) (c .enum-told .given .1)
+returns-3 c = ap packedWalk (walk-told _ _ _ (c .before .before .walk .ensures) _ (c .enum-told .given .1))
 
 returns-4 : tie.Need-returns-4
 unfolding shown
-returns-4 c = sym (add-zero _) ∙ walk-packed _ _ _ _ (c .before .before .before .walk .ensures) (c .before .walked3 .given .1)
+returns-4 c = sym (add-zero _) ∙ ap packedWalk (walk-told _ _ _ (c .before .before .before .walk .ensures) _ (c .before .walked3 .given .1))
 
 pub galebonnet-walk-spec : {M : Type 1} → statement M
 galebonnet-walk-spec =

@@ -1,5 +1,5 @@
 -- `reader::check` meets its contract. Assumes nothing.
-use Rattle.reader.proofs.AnsweredLaws.{blank-scratch, check-long, check-accepted, check-refused, place-within}
+use Rattle.reader.proofs.AnsweredLaws.{check-long, check-accepted, check-refused, place-within}
 use borrow.Author.Needs.{needs}
 use Rattle.reader.proofs.check.Statement.{statement}
 use Rattle.reader.proofs.check.Tie as tie
@@ -14,7 +14,7 @@ slice-aggregate-judge : tie.Need-slice-aggregate-judge
 slice-aggregate-judge c = search needs
 
 judge-requires : tie.Need-judge-requires
-judge-requires c κs = blank-scratch
+judge-requires c κs = search needs
 
 enum-told : tie.Need-enum-told
 enum-told c = search needs
@@ -23,13 +23,13 @@ enum-known-judged : tie.Need-enum-known-judged
 enum-known-judged c = search needs
 
 packed-answer-requires-2 : tie.Need-packed-answer-requires-2
-packed-answer-requires-2 c κs = place-within (c .before .before .before .before .before .before .before .before .args .block .now) _ _ (c .before .before .before .before .before .before .if1 .left) (c .before .before .before .before .judge .ensures .1) _ _ (c .before .judged .given .1)
+packed-answer-requires-2 c κs = place-within (c .before .before .before .before .before .before .before .before .args .block .now) _ _ (c .before .before .before .before .before .before .if1 .left) (c .before .before .before .before .judge .ensures) _ _ (c .before .judged .given .1)
 
 returns-2 : tie.Need-returns-2
-returns-2 c = check-accepted (c .before .before .before .before .before .before .before .args .block .now) _ _ (c .before .before .before .before .before .if1 .left) (c .before .before .before .judge .ensures .1) _ (c .enum-told .given .1)
+returns-2 c = check-accepted (c .before .before .before .before .before .before .before .args .block .now) _ _ (c .before .before .before .before .before .if1 .left) (c .before .before .before .judge .ensures) _ (c .enum-told .given .1)
 
 returns-3 : tie.Need-returns-3
-returns-3 c = check-refused (c .before .before .before .before .before .before .before .before .before .args .block .now) _ _ (c .before .before .before .before .before .before .before .if1 .left) (c .before .before .before .before .before .judge .ensures .1) _ _ _ (c .before .before .judged .given .1) (c .packed-answer2 .ensures)
+returns-3 c = check-refused (c .before .before .before .before .before .before .before .before .before .args .block .now) _ _ (c .before .before .before .before .before .before .before .if1 .left) (c .before .before .before .before .before .judge .ensures) _ _ _ (c .before .before .judged .given .1) (c .packed-answer2 .ensures)
 
 pub check-spec : {M : Type 1} → statement M
 check-spec =

@@ -1,6 +1,7 @@
 -- `rowform::put_atom` meets its contract. Assumes nothing.
 use native.Mathlib.Omega.{arith}
 use Rattle.printing.proofs.PrintLaws.{untouched}
+use Rattle.format.proofs.PlaceLaws.{atom-small}
 use Rattle.rowform.proofs.LineLaws.{atom-laid}
 use borrow.Author.Needs.{needs}
 use Rattle.rowform.proofs.put_atom.Statement.{statement}
@@ -9,23 +10,20 @@ use Rattle.rowform.proofs.put_atom.Tie as tie
 returns : tie.Need-returns
 returns c = (λ low. absurd (omega (arith, low, c .if1 .taken)), λ h. untouched)
 
-mul-place : tie.Need-mul-place
-mul-place c = search needs
-
-add-place : tie.Need-add-place
-add-place c = search needs
+atom-requires : tie.Need-atom-requires
+atom-requires c κs = search needs
 
 cell-requires : tie.Need-cell-requires
 cell-requires c κs = search needs
 
 add-cell : tie.Need-add-cell
-add-cell c = search needs
+add-cell c = omega (arith, atom-small _ _ (c .before .atom .ensures))
 
 cell-requires-2 : tie.Need-cell-requires-2
 cell-requires-2 c κs = search needs
 
 add-cell-2 : tie.Need-add-cell-2
-add-cell-2 c = search needs
+add-cell-2 c = omega (arith, atom-small _ _ (c .before .before .atom .ensures))
 
 cell-requires-3 : tie.Need-cell-requires-3
 cell-requires-3 c κs = search needs
@@ -52,15 +50,14 @@ same-length : tie.Need-same-length
 same-length c = search needs
 
 returns-2 : tie.Need-returns-2
-returns-2 c = (λ low. atom-laid (c .before .before .before .before .before .before .before .before .before .before .before .before .before .before .before .before .before .before .before .before .before .args .table .now) (c .before .before .before .before .before .before .before .before .before .before .before .before .before .before .before .before .before .before .before .before .before .args .i) _ _ _ (c .before .before .before .before .before .before .before .before .before .before .before .before .before .before .before .before .before .before .cell .ensures) (c .before .before .before .before .before .before .before .before .before .before .before .before .before .before .before .before .before .cell2 .ensures) (c .before .before .before .before .before .before .before .before .before .before .before .before .before .before .before .before .cell3 .ensures) (c .before .before .before .before .before .before .before .before .before .before .before .before .before .before .put-ahead .ensures) (c .before .before .before .before .before .before .before .before .before .before .put-symbol .ensures) (c .before .before .before .before .before .before .put-unless-zero .ensures) (c .before .before .put .ensures), λ h. absurd (omega (arith, h, c .before .before .before .before .before .before .before .before .before .before .before .before .before .before .before .before .before .before .before .if1 .left)))
+returns-2 c = (λ low. atom-laid (c .before .before .before .before .before .before .before .before .before .before .before .before .before .before .before .before .before .before .before .before .before .before .args .table .now) (c .before .before .before .before .before .before .before .before .before .before .before .before .before .before .before .before .before .before .before .before .before .before .args .i) _ _ _ _ low (c .before .before .before .before .before .before .before .before .before .before .before .before .before .before .before .before .before .before .before .atom .ensures) (c .before .before .before .before .before .before .before .before .before .before .before .before .before .before .before .before .before .before .cell .ensures) (c .before .before .before .before .before .before .before .before .before .before .before .before .before .before .before .before .before .cell2 .ensures) (c .before .before .before .before .before .before .before .before .before .before .before .before .before .before .before .before .cell3 .ensures) (c .before .before .before .before .before .before .before .before .before .before .before .before .before .before .put-ahead .ensures) (c .before .before .before .before .before .before .before .before .before .before .put-symbol .ensures) (c .before .before .before .before .before .before .put-unless-zero .ensures) (c .before .before .put .ensures), λ h. absurd (omega (arith, h, c .before .before .before .before .before .before .before .before .before .before .before .before .before .before .before .before .before .before .before .before .if1 .left)))
 
 pub put-atom-spec : {M : Type 1} → statement M
 put-atom-spec =
     tie.close
     (tie.spec
     returns
-    mul-place
-    add-place
+    atom-requires
     cell-requires
     add-cell
     cell-requires-2

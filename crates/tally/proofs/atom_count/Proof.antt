@@ -8,8 +8,8 @@ use Rattle.tally.proofs.atom_count.Tie as tie
 cell-requires : tie.Need-cell-requires
 cell-requires c κs = search needs
 
-cast-result : tie.Need-cast-result
-cast-result c = search needs
+cast-count : tie.Need-cast-count
+cast-count c = search needs
 
 returns : tie.Need-returns
 returns c = (omega arith, few-atoms _ _ (c .before .cell .ensures) (c .if1 .taken))
@@ -18,4 +18,4 @@ returns-2 : tie.Need-returns-2
 returns-2 c = (omega arith, many-atoms _ _ (c .before .cell .ensures) (c .if1 .left))
 
 pub atom-count-spec : {M : Type 1} → statement M
-atom-count-spec = tie.close (tie.spec cell-requires cast-result returns returns-2)
+atom-count-spec = tie.close (tie.spec cell-requires cast-count returns returns-2)

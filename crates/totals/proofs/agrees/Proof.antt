@@ -8,13 +8,13 @@ use Rattle.totals.proofs.agrees.Statement.{statement}
 use Rattle.totals.proofs.agrees.Tie as tie
 
 returns : tie.Need-returns
-returns c = λ listed long. absurd (c .if1 .taken long)
+returns c = (λ listed long. absurd (c .if1 .taken long), λ h. refl)
 
 returns-2 : tie.Need-returns-2
-returns-2 c = λ listed long more few. absurd (omega (arith, few))
+returns-2 c = (λ listed long more few. absurd (omega (arith, few)), λ h. refl)
 
 returns-3 : tie.Need-returns-3
-returns-3 c = λ listed long more few low. absurd (omega (arith, low))
+returns-3 c = (λ listed long more few low. absurd (omega (arith, low)), λ h. refl)
 
 slice-aggregate-tally : tie.Need-slice-aggregate-tally
 slice-aggregate-tally c = search needs
@@ -41,7 +41,7 @@ take-formula-requires : tie.Need-take-formula-requires
 take-formula-requires c κs = search needs
 
 returns-4 : tie.Need-returns-4
-returns-4 c = λ listed long more few low. let t = c .before .before in let a = t .before .before .before .before .before .before .before in let x = a .before .before .before .before .before .before .before .before .before .args in tallied-agree (x .last) (x .kinds .now) (x .atoms) _ _ _ low more (a .tally .ensures .3) (t .take-formula .ensures) listed
+returns-4 c = let t = c .before .before in let a = t .before .before .before .before .before .before .before in let x = a .before .before .before .before .before .before .before .before .before .args in (λ listed long more few low. tallied-agree (x .last) (x .kinds .now) (x .atoms) _ _ _ low more (a .tally .ensures .3) (t .take-formula .ensures) listed, λ h. absurd (h (search needs, search needs, search needs)))
 
 pub agrees-spec : {M : Type 1} → statement M
 agrees-spec =

@@ -47,7 +47,7 @@ enum-known-answer c = search needs
 add-print-reading : tie.Need-add-print-reading
 add-print-reading c =
     let pre = c .before .before .before .before .before .before .before .before .before .before .before .before .pre in
-    record { fits = omega (arith, pre .0, pre .1, pre .2, place-fits _ _ _ _ _ _ (c .before .before .before .before .read .ensures) (c .before .answer .given .1)) }
+    record { fits = omega (arith, pre .0, pre .1, pre .2, place-fits _ _ _ _ _ _ (c .before .before .before .before .read .ensures .0) (c .before .answer .given .1)) }
 
 slice-aggregate-print-reading-2 : tie.Need-slice-aggregate-print-reading-2
 slice-aggregate-print-reading-2 c = search needs

@@ -5,6 +5,7 @@ use native.Mathlib.Omega.{arith}
 use lib.ListN.{length}
 use borrow.Author.Needs.{needs}
 use Rattle.filling.specs.Filled.{bondOut, copied}
+use Rattle.format.proofs.PlaceLaws.{bond-place}
 use Rattle.filling.proofs.FillLaws.{bonds-none, bonds-more, copied-all, as-it-was, filled-where}
 use Rattle.filling.proofs.keyed.fill_bonds.Statement.{statement}
 use Rattle.filling.proofs.keyed.fill_bonds.Tie as tie
@@ -51,11 +52,14 @@ mul-payload-2 c = omega arith
 shared-slice-read-payload : tie.Need-shared-slice-read-payload Inv-loop μ-loop
 shared-slice-read-payload c = omega arith
 
-mul-put-three : tie.Need-mul-put-three Inv-loop μ-loop
-mul-put-three c = omega arith
+bond-requires : tie.Need-bond-requires Inv-loop μ-loop
+bond-requires c κs = search needs
+
+sub-at : tie.Need-sub-at Inv-loop μ-loop
+sub-at c = omega (arith, bond-place (c .before .before .before .before .loop .i) (omega arith))
 
 put-three-requires : tie.Need-put-three-requires Inv-loop μ-loop
-put-three-requires c κs = omega arith
+put-three-requires c κs = omega (arith, bond-place (c .before .before .before .before .before .loop .i) (omega arith))
 
 add-i : tie.Need-add-i Inv-loop μ-loop
 add-i c = omega arith
@@ -64,7 +68,7 @@ loop-less : tie.Need-loop-less Inv-loop μ-loop
 loop-less c = omega arith
 
 loop-again : tie.Need-loop-again Inv-loop μ-loop
-loop-again c = (omega arith, omega arith, bonds-more _ _ _ _ (omega arith) (c .before .before .before .before .before .before .loop .inv .2) (c .before .put-three .ensures))
+loop-again c = (omega arith, omega arith, bonds-more _ _ _ _ _ (omega arith) (c .before .before .before .bond .ensures) (c .before .before .before .before .before .before .before .loop .inv .2) (c .before .put-three .ensures))
 
 same-length : tie.Need-same-length Inv-loop μ-loop
 same-length c = omega arith
@@ -90,7 +94,8 @@ fill-bonds-spec =
     add-payload
     mul-payload-2
     shared-slice-read-payload
-    mul-put-three
+    bond-requires
+    sub-at
     put-three-requires
     add-i
     loop-less

@@ -5,6 +5,7 @@ use native.Mathlib.Omega.{arith}
 use lib.ListN.{length}
 use borrow.Author.Needs.{needs}
 use Rattle.filling.specs.Filled.{pairOut, copied}
+use Rattle.format.proofs.PlaceLaws.{pair-place}
 use Rattle.filling.proofs.FillLaws.{pairs-none, pairs-more, copied-all, as-it-was, filled-where}
 use Rattle.filling.proofs.keyed.fill_pairs.Statement.{statement}
 use Rattle.filling.proofs.keyed.fill_pairs.Tie as tie
@@ -51,11 +52,14 @@ mul-payload-2 c = omega arith
 shared-slice-read-payload : tie.Need-shared-slice-read-payload Inv-loop μ-loop
 shared-slice-read-payload c = omega arith
 
-mul-put-four : tie.Need-mul-put-four Inv-loop μ-loop
-mul-put-four c = omega arith
+pair-requires : tie.Need-pair-requires Inv-loop μ-loop
+pair-requires c κs = search needs
+
+sub-at : tie.Need-sub-at Inv-loop μ-loop
+sub-at c = omega (arith, pair-place (c .before .before .before .before .loop .i) (omega arith))
 
 put-four-requires : tie.Need-put-four-requires Inv-loop μ-loop
-put-four-requires c κs = omega arith
+put-four-requires c κs = omega (arith, pair-place (c .before .before .before .before .before .loop .i) (omega arith))
 
 add-i : tie.Need-add-i Inv-loop μ-loop
 add-i c = omega arith
@@ -64,7 +68,7 @@ loop-less : tie.Need-loop-less Inv-loop μ-loop
 loop-less c = omega arith
 
 loop-again : tie.Need-loop-again Inv-loop μ-loop
-loop-again c = (omega arith, omega arith, pairs-more _ _ _ _ (omega arith) (c .before .before .before .before .before .before .loop .inv .2) (c .before .put-four .ensures))
+loop-again c = (omega arith, omega arith, pairs-more _ _ _ _ _ (omega arith) (c .before .before .before .pair .ensures) (c .before .before .before .before .before .before .before .loop .inv .2) (c .before .put-four .ensures))
 
 same-length : tie.Need-same-length Inv-loop μ-loop
 same-length c = omega arith
@@ -90,7 +94,8 @@ fill-pairs-spec =
     add-payload
     mul-payload-2
     shared-slice-read-payload
-    mul-put-four
+    pair-requires
+    sub-at
     put-four-requires
     add-i
     loop-less

@@ -5,6 +5,7 @@ use native.Mathlib.Omega.{arith}
 use lib.ListN.{length}
 use borrow.Author.Needs.{needs}
 use Rattle.filling.specs.Filled.{valueOut, copied}
+use Rattle.format.proofs.PlaceLaws.{charge-place}
 use Rattle.filling.proofs.FillLaws.{copied-all, as-it-was, filled-where}
 use Rattle.filling.proofs.AtomLaws.{values-none, values-more}
 use Rattle.filling.proofs.records.fill_values.Statement.{statement}
@@ -31,6 +32,12 @@ clear-part-requires c κs = search needs
 loop-holds : tie.Need-loop-holds Inv-loop μ-loop
 loop-holds c = (omega arith, omega arith, values-none _ (c .before .before .before .before .before .before .before .args .part .now) _ (omega arith) (c .before .clear-part .ensures))
 
+charge-requires : tie.Need-charge-requires Inv-loop μ-loop
+charge-requires c κs = search needs
+
+sub-put-value : tie.Need-sub-put-value Inv-loop μ-loop
+sub-put-value c = omega (arith, charge-place (c .before .before .before .loop .i) (omega arith))
+
 mul-put-value : tie.Need-mul-put-value Inv-loop μ-loop
 mul-put-value c = omega arith
 
@@ -38,7 +45,7 @@ shared-slice-read-put-value : tie.Need-shared-slice-read-put-value Inv-loop μ-l
 shared-slice-read-put-value c = omega arith
 
 put-value-requires : tie.Need-put-value-requires Inv-loop μ-loop
-put-value-requires c κs = omega arith
+put-value-requires c κs = omega (arith, charge-place (c .before .before .before .before .loop .i) (omega arith))
 
 add-i : tie.Need-add-i Inv-loop μ-loop
 add-i c = omega arith
@@ -47,7 +54,7 @@ loop-less : tie.Need-loop-less Inv-loop μ-loop
 loop-less c = omega arith
 
 loop-again : tie.Need-loop-again Inv-loop μ-loop
-loop-again c = (omega arith, omega arith, values-more _ _ _ _ (omega arith) (c .before .before .before .before .before .loop .inv .2) (c .before .put-value .ensures))
+loop-again c = (omega arith, omega arith, values-more _ _ _ _ _ (omega arith) (c .before .before .before .charge .ensures) (c .before .before .before .before .before .before .loop .inv .2) (c .before .put-value .ensures))
 
 same-length : tie.Need-same-length Inv-loop μ-loop
 same-length c = omega arith
@@ -66,6 +73,8 @@ fill-values-spec =
     returns-3
     clear-part-requires
     loop-holds
+    charge-requires
+    sub-put-value
     mul-put-value
     shared-slice-read-put-value
     put-value-requires

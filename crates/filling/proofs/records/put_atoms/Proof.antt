@@ -5,6 +5,7 @@ use native.Mathlib.Omega.{arith}
 use lib.ListN.{length}
 use borrow.Author.Needs.{needs}
 use Rattle.filling.specs.Filled.{atomsOut}
+use Rattle.format.proofs.PlaceLaws.{atom-place}
 use Rattle.filling.proofs.AtomLaws.{atoms-none, atoms-more, atoms-all}
 use Rattle.filling.proofs.records.put_atoms.Statement.{statement}
 use Rattle.filling.proofs.records.put_atoms.Tie as tie
@@ -27,44 +28,47 @@ number-in-requires c κs = omega arith
 number-in-requires-2 : tie.Need-number-in-requires-2 Inv-loop μ-loop
 number-in-requires-2 c κs = omega arith
 
+atom-requires : tie.Need-atom-requires Inv-loop μ-loop
+atom-requires c κs = search needs
+
+sub-put-five : tie.Need-sub-put-five Inv-loop μ-loop
+sub-put-five c = omega (arith, atom-place (c .before .before .before .before .before .loop .i) (omega arith))
+
 mul-put-five : tie.Need-mul-put-five Inv-loop μ-loop
 mul-put-five c = omega arith
 
 mul-put-five-2 : tie.Need-mul-put-five-2 Inv-loop μ-loop
 mul-put-five-2 c = omega arith
 
-mul-put-five-3 : tie.Need-mul-put-five-3 Inv-loop μ-loop
-mul-put-five-3 c = omega arith
-
 shared-slice-read-put-five : tie.Need-shared-slice-read-put-five Inv-loop μ-loop
 shared-slice-read-put-five c = omega arith
 
-mul-put-five-4 : tie.Need-mul-put-five-4 Inv-loop μ-loop
-mul-put-five-4 c = omega arith
+mul-put-five-3 : tie.Need-mul-put-five-3 Inv-loop μ-loop
+mul-put-five-3 c = omega arith
 
 add-put-five : tie.Need-add-put-five Inv-loop μ-loop
 add-put-five c = omega arith
 
-mul-put-five-5 : tie.Need-mul-put-five-5 Inv-loop μ-loop
-mul-put-five-5 c = omega arith
+mul-put-five-4 : tie.Need-mul-put-five-4 Inv-loop μ-loop
+mul-put-five-4 c = omega arith
 
 shared-slice-read-put-five-2 : tie.Need-shared-slice-read-put-five-2 Inv-loop μ-loop
 shared-slice-read-put-five-2 c = omega arith
 
-mul-put-five-6 : tie.Need-mul-put-five-6 Inv-loop μ-loop
-mul-put-five-6 c = omega arith
+mul-put-five-5 : tie.Need-mul-put-five-5 Inv-loop μ-loop
+mul-put-five-5 c = omega arith
 
 add-put-five-2 : tie.Need-add-put-five-2 Inv-loop μ-loop
 add-put-five-2 c = omega arith
 
-mul-put-five-7 : tie.Need-mul-put-five-7 Inv-loop μ-loop
-mul-put-five-7 c = omega arith
+mul-put-five-6 : tie.Need-mul-put-five-6 Inv-loop μ-loop
+mul-put-five-6 c = omega arith
 
 shared-slice-read-put-five-3 : tie.Need-shared-slice-read-put-five-3 Inv-loop μ-loop
 shared-slice-read-put-five-3 c = omega arith
 
 put-five-requires : tie.Need-put-five-requires Inv-loop μ-loop
-put-five-requires c κs = omega arith
+put-five-requires c κs = omega (arith, atom-place (c .before .before .before .before .before .before .before .before .loop .i) (omega arith))
 
 add-i : tie.Need-add-i Inv-loop μ-loop
 add-i c = omega arith
@@ -73,7 +77,7 @@ loop-less : tie.Need-loop-less Inv-loop μ-loop
 loop-less c = omega arith
 
 loop-again : tie.Need-loop-again Inv-loop μ-loop
-loop-again c = (omega arith, omega arith, atoms-more _ _ _ _ _ _ _ _ _ _ (omega arith) (c .before .before .before .before .before .before .before .number-in .ensures) (c .before .before .before .before .before .before .number-in2 .ensures) (c .before .before .before .before .before .before .before .before .before .loop .inv .2) (c .before .put-five .ensures))
+loop-again c = (omega arith, omega arith, atoms-more _ _ _ _ _ _ _ _ _ _ _ (omega arith) (c .before .before .before .before .before .atom .ensures) (c .before .before .before .before .before .before .before .before .number-in .ensures) (c .before .before .before .before .before .before .before .number-in2 .ensures) (c .before .before .before .before .before .before .before .before .before .before .loop .inv .2) (c .before .put-five .ensures))
 
 same-length : tie.Need-same-length Inv-loop μ-loop
 same-length c = omega arith
@@ -91,17 +95,18 @@ put-atoms-spec =
     loop-holds
     number-in-requires
     number-in-requires-2
+    atom-requires
+    sub-put-five
     mul-put-five
     mul-put-five-2
-    mul-put-five-3
     shared-slice-read-put-five
-    mul-put-five-4
+    mul-put-five-3
     add-put-five
-    mul-put-five-5
+    mul-put-five-4
     shared-slice-read-put-five-2
-    mul-put-five-6
+    mul-put-five-5
     add-put-five-2
-    mul-put-five-7
+    mul-put-five-6
     shared-slice-read-put-five-3
     put-five-requires
     add-i

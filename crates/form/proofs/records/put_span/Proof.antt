@@ -1,10 +1,14 @@
 -- `form::records::put_span` meets its contract. Assumes nothing.
 use Prim.Native.Nat.{_+_, _-_}
 use native.Mathlib.Omega.{arith}
+use Rattle.format.proofs.PlaceLaws.{text-small}
 use Rattle.form.proofs.RecordLaws.{span-laid}
 use borrow.Author.Needs.{needs}
 use Rattle.form.proofs.records.put_span.Statement.{statement}
 use Rattle.form.proofs.records.put_span.Tie as tie
+
+text-requires : tie.Need-text-requires
+text-requires c κs = search needs
 
 cell-requires : tie.Need-cell-requires
 cell-requires c κs = search needs
@@ -13,7 +17,7 @@ within-requires : tie.Need-within-requires
 within-requires c κs = search needs
 
 add-cell : tie.Need-add-cell
-add-cell c = search needs
+add-cell c = omega (arith, text-small _ _ (c .before .before .text .ensures))
 
 cell-requires-2 : tie.Need-cell-requires-2
 cell-requires-2 c κs = search needs
@@ -43,12 +47,13 @@ same-length : tie.Need-same-length
 same-length c = search needs
 
 returns : tie.Need-returns
-returns c = span-laid (c .before .before .before .before .before .before .before .before .before .before .before .before .args .label .now) (c .before .before .before .before .before .before .before .before .before .before .before .before .args .bytes .now) _ _ _ _ (c .before .before .before .before .before .before .before .within .result) (c .before .before .before .before .before .within2 .result) (c .before .before .before .before .before .before .before .within .result + c .before .before .before .before .before .within2 .result - c .before .before .before .before .before .before .before .within .result) (c .before .before .before .before .before .before .before .before .cell .ensures) (c .before .before .before .before .before .before .cell2 .ensures) (c .before .before .before .before .before .before .before .within .ensures) (c .before .before .before .before .before .within2 .ensures) (omega arith) (c .before .before .put-record .ensures)
+returns c = span-laid (c .before .before .before .before .before .before .before .before .before .before .before .before .before .args .label .now) (c .before .before .before .before .before .before .before .before .before .before .before .before .before .args .bytes .now) (c .before .before .before .before .before .before .before .before .before .before .before .before .before .args .table .now) _ _ _ _ (c .before .before .before .before .before .before .before .within .result) (c .before .before .before .before .before .within2 .result) (c .before .before .before .before .before .before .before .within .result + c .before .before .before .before .before .within2 .result - c .before .before .before .before .before .before .before .within .result) (c .before .before .before .before .before .before .before .before .before .text .ensures) (c .before .before .before .before .before .before .before .before .cell .ensures) (c .before .before .before .before .before .before .cell2 .ensures) (c .before .before .before .before .before .before .before .within .ensures) (c .before .before .before .before .before .within2 .ensures) (omega arith) (c .before .before .put-record .ensures)
 
 pub put-span-spec : {M : Type 1} → statement M
 put-span-spec =
     tie.close
     (tie.spec
+    text-requires
     cell-requires
     within-requires
     add-cell

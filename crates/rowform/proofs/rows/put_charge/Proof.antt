@@ -4,8 +4,8 @@ use borrow.Author.Needs.{needs}
 use Rattle.rowform.proofs.rows.put_charge.Statement.{statement}
 use Rattle.rowform.proofs.rows.put_charge.Tie as tie
 
-add-put-signed : tie.Need-add-put-signed
-add-put-signed c = search needs
+charge-requires : tie.Need-charge-requires
+charge-requires c κs = search needs
 
 put-signed-requires : tie.Need-put-signed-requires
 put-signed-requires c κs = search needs
@@ -26,13 +26,13 @@ same-length : tie.Need-same-length
 same-length c = search needs
 
 returns : tie.Need-returns
-returns c = charge-laid (c .before .before .before .before .before .before .before .before .before .before .before .before .before .args .table .now) (c .before .before .before .before .before .before .before .before .before .before .before .before .before .args .i) (c .before .before .before .before .before .before .before .before .before .before .put-signed .ensures) (c .before .before .before .before .before .before .put-members .ensures) (c .before .before .put .ensures)
+returns c = charge-laid (c .before .before .before .before .before .before .before .before .before .before .before .before .before .before .args .table .now) (c .before .before .before .before .before .before .before .before .before .before .before .before .before .before .pre .1) (c .before .before .before .before .before .before .before .before .before .before .before .before .before .before .args .i) _ (c .before .before .before .before .before .before .before .before .before .before .before .charge .ensures) (c .before .before .before .before .before .before .before .before .before .before .put-signed .ensures) (c .before .before .before .before .before .before .put-members .ensures) (c .before .before .put .ensures)
 
 pub put-charge-spec : {M : Type 1} → statement M
 put-charge-spec =
     tie.close
     (tie.spec
-    add-put-signed
+    charge-requires
     put-signed-requires
     cast-put-members
     add-put-members

@@ -7,6 +7,7 @@ use borrow.Author.Needs.{needs}
 use Rattle.format.specs.Table.{atomRecords}
 use Rattle.printing.specs.Printing.{Rests}
 use Rattle.printing.proofs.PrintLaws.{rest-all, rest-on, rest-none}
+use Rattle.format.proofs.PlaceLaws.{atom-small}
 use Rattle.rowform.proofs.PlaceLaws.{records-many}
 use Rattle.rowform.proofs.RowLaws.{membersText, members-on, members-end}
 use Rattle.rowform.proofs.rows.put_members.Statement.{statement}
@@ -24,20 +25,17 @@ count-at-requires c κs = search needs
 loop-holds : tie.Need-loop-holds Inv-loop μ-loop
 loop-holds c = (omega arith, refl, rest-all)
 
-mul-put-member : tie.Need-mul-put-member Inv-loop μ-loop
-mul-put-member c = omega arith
+atom-requires : tie.Need-atom-requires Inv-loop μ-loop
+atom-requires c κs = search needs
 
 add-put-member : tie.Need-add-put-member Inv-loop μ-loop
-add-put-member c = omega arith
-
-add-put-member-2 : tie.Need-add-put-member-2 Inv-loop μ-loop
-add-put-member-2 c = omega arith
+add-put-member c = omega (arith, atom-small _ _ (c .atom .ensures))
 
 cast-put-member : tie.Need-cast-put-member Inv-loop μ-loop
 cast-put-member c = omega arith
 
-add-put-member-3 : tie.Need-add-put-member-3 Inv-loop μ-loop
-add-put-member-3 c = omega arith
+add-put-member-2 : tie.Need-add-put-member-2 Inv-loop μ-loop
+add-put-member-2 c = omega arith
 
 put-member-requires : tie.Need-put-member-requires Inv-loop μ-loop
 put-member-requires c κs = search needs
@@ -49,7 +47,7 @@ loop-less : tie.Need-loop-less Inv-loop μ-loop
 loop-less c = omega arith
 
 loop-again : tie.Need-loop-again Inv-loop μ-loop
-loop-again c = (omega arith, omega arith, rest-on (members-on (c .before .before .before .before .before .before .before .before .args .table .now) _ _ _ (c .before .before .before .before .before .before .before .before .pre .0) (omega (arith, c .before .before .before .before .before .before .count-at .ensures .0, records-many (c .before .before .before .before .before .before .before .before .args .table .now)))) (c .before .before .put-member .ensures) (c .before .before .before .before .before .loop .inv .2))
+loop-again c = (omega arith, omega arith, rest-on (members-on (c .before .before .before .before .before .before .before .before .before .args .table .now) _ _ _ _ (c .before .before .before .atom .ensures) (c .before .before .before .before .before .before .before .before .before .pre .0) (omega (arith, c .before .before .before .before .before .before .before .count-at .ensures .0, records-many (c .before .before .before .before .before .before .before .before .before .args .table .now)))) (c .before .before .put-member .ensures) (c .before .before .before .before .before .before .loop .inv .2))
 
 same-length : tie.Need-same-length Inv-loop μ-loop
 same-length c = c .before .loop .inv .1
@@ -65,11 +63,10 @@ put-members-spec =
     μ-loop
     count-at-requires
     loop-holds
-    mul-put-member
+    atom-requires
     add-put-member
-    add-put-member-2
     cast-put-member
-    add-put-member-3
+    add-put-member-2
     put-member-requires
     add-i
     loop-less

@@ -1,20 +1,20 @@
 -- `rowform::rows::put_pair` meets its contract. Assumes nothing.
+use native.Mathlib.Omega.{arith}
+use Rattle.format.specs.Labels.{Pairs}
+use Rattle.format.proofs.PlaceLaws.{row-small}
 use Rattle.rowform.proofs.RowLaws.{pair-laid}
 use borrow.Author.Needs.{needs}
 use Rattle.rowform.proofs.rows.put_pair.Statement.{statement}
 use Rattle.rowform.proofs.rows.put_pair.Tie as tie
 
-mul-place : tie.Need-mul-place
-mul-place c = search needs
-
-add-place : tie.Need-add-place
-add-place c = search needs
+pair-requires : tie.Need-pair-requires
+pair-requires c κs = search needs
 
 cell-requires : tie.Need-cell-requires
 cell-requires c κs = search needs
 
 add-cell : tie.Need-add-cell
-add-cell c = search needs
+add-cell c = omega (arith, row-small Pairs _ _ (c .before .pair .ensures))
 
 cell-requires-2 : tie.Need-cell-requires-2
 cell-requires-2 c κs = search needs
@@ -23,7 +23,7 @@ slice-aggregate-letter-of : tie.Need-slice-aggregate-letter-of
 slice-aggregate-letter-of c = search needs
 
 add-cell-2 : tie.Need-add-cell-2
-add-cell-2 c = search needs
+add-cell-2 c = omega (arith, row-small Pairs _ _ (c .before .before .before .pair .ensures))
 
 cell-requires-3 : tie.Need-cell-requires-3
 cell-requires-3 c κs = search needs
@@ -32,7 +32,7 @@ letter-of-requires : tie.Need-letter-of-requires
 letter-of-requires c κs = search needs
 
 add-cell-3 : tie.Need-add-cell-3
-add-cell-3 c = search needs
+add-cell-3 c = omega (arith, row-small Pairs _ _ (c .before .before .before .before .before .pair .ensures))
 
 cell-requires-4 : tie.Need-cell-requires-4
 cell-requires-4 c κs = search needs
@@ -44,14 +44,13 @@ same-length : tie.Need-same-length
 same-length c = search needs
 
 returns : tie.Need-returns
-returns c = pair-laid (c .before .before .before .before .before .before .before .before .before .before .before .args .table .now) (c .before .before .before .before .before .before .before .before .before .before .before .pre .1) (c .before .before .before .before .before .before .before .before .before .before .before .args .i) _ _ _ _ _ (c .before .before .before .before .before .before .before .before .before .cell .ensures) (c .before .before .before .before .before .before .before .before .cell2 .ensures) (c .before .before .before .before .before .before .cell3 .ensures) (c .before .before .before .before .before .letter-of .ensures) (c .before .before .before .before .cell4 .ensures) (c .before .before .put-two .ensures)
+returns c = pair-laid (c .before .before .before .before .before .before .before .before .before .before .before .before .args .table .now) (c .before .before .before .before .before .before .before .before .before .before .before .before .pre .1) (c .before .before .before .before .before .before .before .before .before .before .before .before .args .i) _ (c .before .before .before .before .before .before .before .before .before .before .pair .ensures) _ _ _ _ _ (c .before .before .before .before .before .before .before .before .before .cell .ensures) (c .before .before .before .before .before .before .before .before .cell2 .ensures) (c .before .before .before .before .before .before .cell3 .ensures) (c .before .before .before .before .before .letter-of .ensures) (c .before .before .before .before .cell4 .ensures) (c .before .before .put-two .ensures)
 
 pub put-pair-spec : {M : Type 1} → statement M
 put-pair-spec =
     tie.close
     (tie.spec
-    mul-place
-    add-place
+    pair-requires
     cell-requires
     add-cell
     cell-requires-2

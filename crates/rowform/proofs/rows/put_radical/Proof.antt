@@ -4,8 +4,8 @@ use borrow.Author.Needs.{needs}
 use Rattle.rowform.proofs.rows.put_radical.Statement.{statement}
 use Rattle.rowform.proofs.rows.put_radical.Tie as tie
 
-add-cell : tie.Need-add-cell
-add-cell c = search needs
+radical-requires : tie.Need-radical-requires
+radical-requires c κs = search needs
 
 cell-requires : tie.Need-cell-requires
 cell-requires c κs = search needs
@@ -29,13 +29,13 @@ same-length : tie.Need-same-length
 same-length c = search needs
 
 returns : tie.Need-returns
-returns c = radical-laid (c .before .before .before .before .before .before .before .before .before .before .before .before .before .before .args .table .now) (c .before .before .before .before .before .before .before .before .before .before .before .before .before .before .args .i) _ (c .before .before .before .before .before .before .before .before .before .before .before .cell .ensures) (c .before .before .before .before .before .before .before .before .before .before .put-number .ensures) (c .before .before .before .before .before .before .put-members .ensures) (c .before .before .put .ensures)
+returns c = radical-laid (c .before .before .before .before .before .before .before .before .before .before .before .before .before .before .before .args .table .now) (c .before .before .before .before .before .before .before .before .before .before .before .before .before .before .before .pre .1) (c .before .before .before .before .before .before .before .before .before .before .before .before .before .before .before .args .i) _ (c .before .before .before .before .before .before .before .before .before .before .before .before .radical .ensures) _ (c .before .before .before .before .before .before .before .before .before .before .before .cell .ensures) (c .before .before .before .before .before .before .before .before .before .before .put-number .ensures) (c .before .before .before .before .before .before .put-members .ensures) (c .before .before .put .ensures)
 
 pub put-radical-spec : {M : Type 1} → statement M
 put-radical-spec =
     tie.close
     (tie.spec
-    add-cell
+    radical-requires
     cell-requires
     put-number-requires
     cast-put-members

@@ -1,9 +1,8 @@
 -- `sorted::keyed::bond_line` meets its contract. Assumes nothing.
 use mathlib.Core.Path.{refl, sym, _∙_}
-use Rattle.sorted.proofs.JoinLaws.{kept-within, stop-within}
-use Rattle.sorted.proofs.KeyedLaws.{shows-blank}
-use Rattle.sorted.proofs.KeyedLines.{bond-small, bond-wrong, bond-shows}
 use native.Mathlib.Omega.{arith}
+use Rattle.sorted.proofs.KeyedLaws.{line-within, refused-within, handed-within, shows-blank}
+use Rattle.sorted.proofs.KeyedLines.{bond-torn, bond-small, bond-refused, bond-shows}
 use borrow.Author.Needs.{needs}
 use Rattle.sorted.proofs.keyed.bond_line.Statement.{statement}
 use Rattle.sorted.proofs.keyed.bond_line.Tie as tie
@@ -21,31 +20,43 @@ is-bare-requires : tie.Need-is-bare-requires
 is-bare-requires c κs = search needs
 
 returns-4 : tie.Need-returns-4
-returns-4 c = (refl, λ long few atoms. (kept-within _ _ few, shows-blank _ _ _ _ _ (sym (c .before .is-bare .ensures) ∙ c .if4 .taken)), λ other. absurd (other (omega arith) (omega arith) (omega arith)))
+returns-4 c = (refl, λ long few atoms. (line-within _ _ few, shows-blank _ _ _ _ _ _ (sym (c .before .is-bare .ensures) ∙ c .if4 .taken)), λ other. absurd (other (omega arith) (omega arith) (omega arith)))
 
 bond-row-requires : tie.Need-bond-row-requires
 bond-row-requires c κs = search needs
 
-enum-known-first : tie.Need-enum-known-first
-enum-known-first c = search needs
+enum-known-row : tie.Need-enum-known-row
+enum-known-row c = search needs
+
+enum-known-row-2 : tie.Need-enum-known-row-2
+enum-known-row-2 c = search needs
+
+enum-known-row-3 : tie.Need-enum-known-row-3
+enum-known-row-3 c = search needs
 
 enum-told : tie.Need-enum-told
 enum-told c = search needs
 
 returns-5 : tie.Need-returns-5
-returns-5 c = (refl, λ long few atoms. (stop-within _ _, bond-wrong _ _ _ _ _ (sym (c .before .before .before .before .is-bare .ensures) ∙ c .before .before .before .if4 .left) _ (c .before .before .bond-row .ensures) (c .enum-told .given .1)), λ other. absurd (other (omega arith) (omega arith) (omega arith)))
+returns-5 c = (refl, λ long few atoms. bond-torn _ _ _ _ (c .enum-told .given .1), λ other. (refl, refl))
 
-mul-two-atoms : tie.Need-mul-two-atoms
-mul-two-atoms c = let q = bond-small _ _ (c .before .before .before .before .bond-row .ensures) _ _ _ (c .before .before .first .given .1) in record { fits = omega (arith, q) }
+returns-6 : tie.Need-returns-6
+returns-6 c = let b = c .before .before .before .before .before .before in (refl, λ long few atoms. (refused-within _ _ _, bond-refused _ _ _ _ _ _ (sym (b .before .before .is-bare .ensures) ∙ b .before .if4 .left) _ (b .bond-row .ensures) _ (c .before .before .before .before .row2 .given .1 ∙ c .before .row3 .given .1)), λ other. absurd (other (omega arith) (omega arith) (omega arith)))
+
+mul-payload : tie.Need-mul-payload
+mul-payload c = let q = bond-small _ _ (c .before .before .before .bond-row .ensures) _ _ _ (c .before .row .given .1) in record { fits = omega (arith, q) }
 
 two-atoms-requires : tie.Need-two-atoms-requires
 two-atoms-requires c κs = search needs
 
+on-line-requires : tie.Need-on-line-requires
+on-line-requires c κs = search needs
+
 same-length : tie.Need-same-length
 same-length c = search needs
 
-returns-6 : tie.Need-returns-6
-returns-6 c = (c .before .before .two-atoms .ensures .0, λ long few atoms. (c .before .before .two-atoms .ensures .1, bond-shows _ _ _ _ _ (sym (c .before .before .before .before .before .before .before .before .before .is-bare .ensures) ∙ c .before .before .before .before .before .before .before .before .if4 .left) _ (c .before .before .before .before .before .before .before .bond-row .ensures) _ _ _ (c .before .before .before .before .before .first .given .1) _ (c .before .before .two-atoms .ensures .2)), λ other. absurd (other (omega arith) (omega arith) (omega arith)))
+returns-7 : tie.Need-returns-7
+returns-7 c = let a = c .before .before .before in let v = a .before .before .before in let b = v .before .before in (a .two-atoms .ensures .0, λ long few atoms. (handed-within _ _ _ (c .on-line .ensures) _ (a .two-atoms .ensures .1), bond-shows _ _ _ _ _ _ (sym (b .before .before .is-bare .ensures) ∙ b .before .if4 .left) _ (b .bond-row .ensures) _ _ _ (v .row .given .1) _ _ (c .on-line .ensures) (a .two-atoms .ensures .2)), λ other. absurd (other (omega arith) (omega arith) (omega arith)))
 
 pub bond-line-spec : {M : Type 1} → statement M
 bond-line-spec =
@@ -57,10 +68,14 @@ bond-line-spec =
     is-bare-requires
     returns-4
     bond-row-requires
-    enum-known-first
+    enum-known-row
+    enum-known-row-2
+    enum-known-row-3
     enum-told
     returns-5
-    mul-two-atoms
+    returns-6
+    mul-payload
     two-atoms-requires
+    on-line-requires
     same-length
-    returns-6)
+    returns-7)

@@ -1,9 +1,8 @@
 -- `sorted::keyed::centre_line` meets its contract. Assumes nothing.
 use mathlib.Core.Path.{refl, sym, _∙_}
-use Rattle.sorted.proofs.JoinLaws.{kept-within, stop-within}
-use Rattle.sorted.proofs.KeyedLaws.{shows-blank}
-use Rattle.sorted.proofs.KeyedLines.{centre-small, centre-wrong, centre-shows}
 use native.Mathlib.Omega.{arith}
+use Rattle.sorted.proofs.KeyedLaws.{line-within, refused-within, handed-within, shows-blank}
+use Rattle.sorted.proofs.KeyedLines.{centre-torn, centre-small, centre-refused, centre-shows}
 use borrow.Author.Needs.{needs}
 use Rattle.sorted.proofs.keyed.centre_line.Statement.{statement}
 use Rattle.sorted.proofs.keyed.centre_line.Tie as tie
@@ -21,34 +20,46 @@ is-bare-requires : tie.Need-is-bare-requires
 is-bare-requires c κs = search needs
 
 returns-4 : tie.Need-returns-4
-returns-4 c = (refl, λ long few atoms. (kept-within _ _ few, shows-blank _ _ _ _ _ (sym (c .before .is-bare .ensures) ∙ c .if4 .taken)), λ other. absurd (other (omega arith) (omega arith) (omega arith)))
+returns-4 c = (refl, λ long few atoms. (line-within _ _ few, shows-blank _ _ _ _ _ _ (sym (c .before .is-bare .ensures) ∙ c .if4 .taken)), λ other. absurd (other (omega arith) (omega arith) (omega arith)))
 
 centre-row-requires : tie.Need-centre-row-requires
 centre-row-requires c κs = search needs
 
-enum-known-atom : tie.Need-enum-known-atom
-enum-known-atom c = search needs
+enum-known-row : tie.Need-enum-known-row
+enum-known-row c = search needs
+
+enum-known-row-2 : tie.Need-enum-known-row-2
+enum-known-row-2 c = search needs
+
+enum-known-row-3 : tie.Need-enum-known-row-3
+enum-known-row-3 c = search needs
 
 enum-told : tie.Need-enum-told
 enum-told c = search needs
 
 returns-5 : tie.Need-returns-5
-returns-5 c = (refl, λ long few atoms. (stop-within _ _, centre-wrong _ _ _ _ _ (sym (c .before .before .before .before .is-bare .ensures) ∙ c .before .before .before .if4 .left) _ (c .before .before .centre-row .ensures) (c .enum-told .given .1)), λ other. absurd (other (omega arith) (omega arith) (omega arith)))
+returns-5 c = (refl, λ long few atoms. centre-torn _ _ _ _ (c .enum-told .given .1), λ other. (refl, refl))
 
-mul-one-atom : tie.Need-mul-one-atom
-mul-one-atom c = let q = centre-small _ _ (c .before .before .before .before .centre-row .ensures) _ _ _ (c .before .before .atom .given .1) in record { fits = omega (arith, q .0) }
+returns-6 : tie.Need-returns-6
+returns-6 c = let b = c .before .before .before .before .before .before in (refl, λ long few atoms. (refused-within _ _ _, centre-refused _ _ _ _ _ _ (sym (b .before .before .is-bare .ensures) ∙ b .before .if4 .left) _ (b .centre-row .ensures) _ (c .before .before .before .before .row2 .given .1 ∙ c .before .row3 .given .1)), λ other. absurd (other (omega arith) (omega arith) (omega arith)))
 
-add-one-atom : tie.Need-add-one-atom
-add-one-atom c = let q = centre-small _ _ (c .before .before .before .before .centre-row .ensures) _ _ _ (c .before .before .atom .given .1) in record { fits = omega (arith, q .0, q .1) }
+mul-payload : tie.Need-mul-payload
+mul-payload c = let q = centre-small _ _ (c .before .before .before .centre-row .ensures) _ _ _ (c .before .row .given .1) in record { fits = omega (arith, q .0) }
+
+add-payload : tie.Need-add-payload
+add-payload c = let q = centre-small _ _ (c .before .before .before .centre-row .ensures) _ _ _ (c .before .row .given .1) in record { fits = omega (arith, q .0, q .1) }
 
 one-atom-requires : tie.Need-one-atom-requires
 one-atom-requires c κs = search needs
 
+on-line-requires : tie.Need-on-line-requires
+on-line-requires c κs = search needs
+
 same-length : tie.Need-same-length
 same-length c = search needs
 
-returns-6 : tie.Need-returns-6
-returns-6 c = (c .before .before .one-atom .ensures .0, λ long few atoms. (c .before .before .one-atom .ensures .1, centre-shows _ _ _ _ _ (sym (c .before .before .before .before .before .before .before .before .before .is-bare .ensures) ∙ c .before .before .before .before .before .before .before .before .if4 .left) _ (c .before .before .before .before .before .before .before .centre-row .ensures) _ _ _ (c .before .before .before .before .before .atom .given .1) _ (c .before .before .one-atom .ensures .2)), λ other. absurd (other (omega arith) (omega arith) (omega arith)))
+returns-7 : tie.Need-returns-7
+returns-7 c = let a = c .before .before .before in let v = a .before .before .before in let b = v .before .before in (a .one-atom .ensures .0, λ long few atoms. (handed-within _ _ _ (c .on-line .ensures) _ (a .one-atom .ensures .1), centre-shows _ _ _ _ _ _ (sym (b .before .before .is-bare .ensures) ∙ b .before .if4 .left) _ (b .centre-row .ensures) _ _ _ (v .row .given .1) _ _ (c .on-line .ensures) (a .one-atom .ensures .2)), λ other. absurd (other (omega arith) (omega arith) (omega arith)))
 
 pub centre-line-spec : {M : Type 1} → statement M
 centre-line-spec =
@@ -60,11 +71,15 @@ centre-line-spec =
     is-bare-requires
     returns-4
     centre-row-requires
-    enum-known-atom
+    enum-known-row
+    enum-known-row-2
+    enum-known-row-3
     enum-told
     returns-5
-    mul-one-atom
-    add-one-atom
+    returns-6
+    mul-payload
+    add-payload
     one-atom-requires
+    on-line-requires
     same-length
-    returns-6)
+    returns-7)

@@ -22,11 +22,11 @@ returns-2 c = (refl, stop-within _ _, shows-unlisted _ _ _ _ _ _ _ _ (second-unl
 returns-3 : tie.Need-returns-3
 returns-3 c = (refl, stop-within _ _, shows-itself _ _ _ _ _ _ _ _ (both-listed _ _ _ (sym (c .before .before .before .before .is-listed .ensures) ∙ not-false _ (c .before .before .before .if1 .left)) (sym (c .before .before .is-listed2 .ensures) ∙ not-false _ (c .before .if2 .left))) (pair-equal _ _ (c .if3 .taken)), same-leaves _ _)
 
-mul-join : tie.Need-mul-join
-mul-join c = one-fits _ _ (c .before .before .before .before .before .before .before .before .pre .3) (sym (c .before .before .before .before .before .before .is-listed .ensures) ∙ not-false _ (c .before .before .before .before .before .if1 .left))
+mul-key : tie.Need-mul-key
+mul-key c = one-fits _ _ (c .before .before .before .before .before .before .before .pre .3) (sym (c .before .before .before .before .before .is-listed .ensures) ∙ not-false _ (c .before .before .before .before .if1 .left))
 
-add-join : tie.Need-add-join
-add-join c = two-fits _ _ _ (c .before .before .before .before .before .before .before .before .pre .3) (sym (c .before .before .before .before .before .before .is-listed .ensures) ∙ not-false _ (c .before .before .before .before .before .if1 .left)) (sym (c .before .before .before .before .is-listed2 .ensures) ∙ not-false _ (c .before .before .before .if2 .left))
+add-key : tie.Need-add-key
+add-key c = two-fits _ _ _ (c .before .before .before .before .before .before .before .pre .3) (sym (c .before .before .before .before .before .is-listed .ensures) ∙ not-false _ (c .before .before .before .before .if1 .left)) (sym (c .before .before .before .is-listed2 .ensures) ∙ not-false _ (c .before .before .if2 .left))
 
 join-requires : tie.Need-join-requires
 join-requires c κs = search needs
@@ -37,11 +37,11 @@ same-length c = search needs
 returns-4 : tie.Need-returns-4
 returns-4 c = (c .before .before .join .ensures .0, c .before .before .join .ensures .1, shows-joined _ _ _ _ _ _ _ _ _ _ (c .before .before .before .before .before .before .before .before .before .before .before .pre .3) (both-listed _ _ _ (sym (c .before .before .before .before .before .before .before .before .before .is-listed .ensures) ∙ not-false _ (c .before .before .before .before .before .before .before .before .if1 .left)) (sym (c .before .before .before .before .before .before .before .is-listed2 .ensures) ∙ not-false _ (c .before .before .before .before .before .before .if2 .left))) (pair-apart _ _ (c .before .before .before .before .before .if3 .left)) (lower-first _ _ (c .before .before .before .before .if4 .taken)) (c .before .before .join .ensures .2), c .before .before .join .ensures .3)
 
-mul-join-2 : tie.Need-mul-join-2
-mul-join-2 c = one-fits _ _ (c .before .before .before .before .before .before .before .before .pre .3) (sym (c .before .before .before .before .is-listed2 .ensures) ∙ not-false _ (c .before .before .before .if2 .left))
+mul-key-2 : tie.Need-mul-key-2
+mul-key-2 c = one-fits _ _ (c .before .before .before .before .before .before .before .pre .3) (sym (c .before .before .before .is-listed2 .ensures) ∙ not-false _ (c .before .before .if2 .left))
 
-add-join-2 : tie.Need-add-join-2
-add-join-2 c = two-fits _ _ _ (c .before .before .before .before .before .before .before .before .pre .3) (sym (c .before .before .before .before .is-listed2 .ensures) ∙ not-false _ (c .before .before .before .if2 .left)) (sym (c .before .before .before .before .before .before .is-listed .ensures) ∙ not-false _ (c .before .before .before .before .before .if1 .left))
+add-key-2 : tie.Need-add-key-2
+add-key-2 c = two-fits _ _ _ (c .before .before .before .before .before .before .before .pre .3) (sym (c .before .before .before .is-listed2 .ensures) ∙ not-false _ (c .before .before .if2 .left)) (sym (c .before .before .before .before .before .is-listed .ensures) ∙ not-false _ (c .before .before .before .before .if1 .left))
 
 join-requires-2 : tie.Need-join-requires-2
 join-requires-2 c κs = search needs
@@ -61,13 +61,13 @@ two-atoms-spec =
     is-listed-requires-2
     returns-2
     returns-3
-    mul-join
-    add-join
+    mul-key
+    add-key
     join-requires
     same-length
     returns-4
-    mul-join-2
-    add-join-2
+    mul-key-2
+    add-key-2
     join-requires-2
     same-length-2
     returns-5)

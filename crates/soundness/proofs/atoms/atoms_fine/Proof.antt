@@ -1,5 +1,7 @@
 -- `soundness::atoms::atoms_fine` meets its contract. Assumes nothing.
-use mathlib.Core.Path.{_∙_}
+use mathlib.Core.Path.{refl, _∙_}
+use native.Mathlib.Omega.{arith}
+use Rattle.format.proofs.PlaceLaws.{atoms-behind}
 use Rattle.soundness.proofs.TestLaws.{stop, pass}
 use Rattle.soundness.proofs.RegionTests.{atoms-is}
 use borrow.Author.Needs.{needs}
@@ -22,16 +24,16 @@ each-atom-fine-requires : tie.Need-each-atom-fine-requires
 each-atom-fine-requires c κs = search needs
 
 returns : tie.Need-returns
-returns c = stop _ _ (c .before .each-atom-fine .ensures) _ (c .if1 .taken) ∙ atoms-is (c .before .before .before .before .before .args .table .now) _ _ _ (c .before .before .before .before .cell .ensures) (c .before .before .before .cell2 .ensures) (c .before .before .cell3 .ensures)
+returns c = stop _ _ (c .before .each-atom-fine .ensures) _ (c .if1 .taken) ∙ atoms-is (c .before .before .before .before .before .args .table .now) _ _ _ (c .before .before .before .before .cell .ensures) (c .before .before .before .cell2 .ensures) (c .before .before .cell3 .ensures) _ refl
+
+atom-requires : tie.Need-atom-requires
+atom-requires c κs = search needs
+
+unused-from-requires : tie.Need-unused-from-requires
+unused-from-requires c κs = search needs
 
 mul-all-zero : tie.Need-mul-all-zero
 mul-all-zero c = search needs
-
-add-all-zero : tie.Need-add-all-zero
-add-all-zero c = search needs
-
-mul-all-zero-2 : tie.Need-mul-all-zero-2
-mul-all-zero-2 c = search needs
 
 sub-all-zero : tie.Need-sub-all-zero
 sub-all-zero c = search needs
@@ -46,7 +48,7 @@ all-zero-requires : tie.Need-all-zero-requires
 all-zero-requires c κs = search needs
 
 returns-2 : tie.Need-returns-2
-returns-2 c = pass _ _ (c .before .before .before .each-atom-fine .ensures) _ _ (c .before .before .if1 .left) (c .all-zero .ensures) ∙ atoms-is (c .before .before .before .before .before .before .before .args .table .now) _ _ _ (c .before .before .before .before .before .before .cell .ensures) (c .before .before .before .before .before .cell2 .ensures) (c .before .before .before .before .cell3 .ensures)
+returns-2 c = pass _ _ (c .before .before .before .before .before .each-atom-fine .ensures) _ _ (c .before .before .before .before .if1 .left) (c .all-zero .ensures) ∙ atoms-is (c .before .before .before .before .before .before .before .before .before .args .table .now) _ _ _ (c .before .before .before .before .before .before .before .before .cell .ensures) (c .before .before .before .before .before .before .before .cell2 .ensures) (c .before .before .before .before .before .before .cell3 .ensures) _ (atoms-behind (c .before .before .before .before .before .before .before .before .cell .result) (omega (arith, c .before .before .before .before .before .before .before .before .cell .ensures)) _ _ (c .before .before .before .atom .ensures) (c .before .before .unused-from .ensures))
 
 pub atoms-fine-spec : {M : Type 1} → statement M
 atoms-fine-spec =
@@ -58,9 +60,9 @@ atoms-fine-spec =
     cell-requires-3
     each-atom-fine-requires
     returns
+    atom-requires
+    unused-from-requires
     mul-all-zero
-    add-all-zero
-    mul-all-zero-2
     sub-all-zero
     part-all-zero-start
     part-all-zero-end

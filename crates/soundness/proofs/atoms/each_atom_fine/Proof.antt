@@ -2,9 +2,11 @@
 use Prim.Native.Nat.{_-_, _≤_}
 use mathlib.Core.Path.{_≡_, refl, sym, _∙_}
 use native.Mathlib.Omega.{arith}
+use borrow.Author.Needs.{needs}
 use lib.ListN.{drop}
 use Rattle.lists.specs.Lists.{all, rowsFrom}
 use Rattle.soundness.specs.Sounding.{atomFine}
+use Rattle.format.proofs.PlaceLaws.{atom-place, atom-small}
 use Rattle.soundness.proofs.TestLaws.{rows-miss, rows-pass, rows-end}
 use Rattle.soundness.proofs.atoms.each_atom_fine.Statement.{statement}
 use Rattle.soundness.proofs.atoms.each_atom_fine.Tie as tie
@@ -18,17 +20,14 @@ abbrev μ-loop : tie.MeasureT-loop
 loop-holds : tie.Need-loop-holds Inv-loop μ-loop
 loop-holds c = (omega arith, refl)
 
-mul-atom-fine : tie.Need-mul-atom-fine Inv-loop μ-loop
-mul-atom-fine c = omega arith
-
-add-atom-fine : tie.Need-add-atom-fine Inv-loop μ-loop
-add-atom-fine c = omega arith
+atom-requires : tie.Need-atom-requires Inv-loop μ-loop
+atom-requires c κs = search needs
 
 atom-fine-requires : tie.Need-atom-fine-requires Inv-loop μ-loop
-atom-fine-requires c κs = omega arith
+atom-fine-requires c κs = atom-small _ _ (c .atom .ensures)
 
 returns : tie.Need-returns Inv-loop μ-loop
-returns c = sym (c .before .before .before .loop .inv .1 ∙ rows-miss _ 16 5 _ (atomFine 103 _ _) _ (c .before .before .loop-test .taken) _ (c .before .atom-fine .ensures) (c .if1 .taken))
+returns c = sym (c .before .before .before .before .loop .inv .1 ∙ rows-miss _ 16 5 _ (atomFine 103 _ _) _ (c .before .before .before .loop-test .taken) _ (c .before .before .atom .ensures ∙ atom-place (c .before .before .before .before .loop .i) (omega arith)) _ (c .before .atom-fine .ensures) (c .if1 .taken))
 
 add-i : tie.Need-add-i Inv-loop μ-loop
 add-i c = omega arith
@@ -37,7 +36,7 @@ loop-less : tie.Need-loop-less Inv-loop μ-loop
 loop-less c = omega arith
 
 loop-again : tie.Need-loop-again Inv-loop μ-loop
-loop-again c = (omega arith, c .before .before .before .loop .inv .1 ∙ rows-pass _ 16 5 _ (atomFine 103 _ _) _ (c .before .before .loop-test .taken) _ (c .before .atom-fine .ensures) (c .if1 .left))
+loop-again c = (omega arith, c .before .before .before .before .loop .inv .1 ∙ rows-pass _ 16 5 _ (atomFine 103 _ _) _ (c .before .before .before .loop-test .taken) _ (c .before .before .atom .ensures ∙ atom-place (c .before .before .before .before .loop .i) (omega arith)) _ (c .before .atom-fine .ensures) (c .if1 .left))
 
 returns-2 : tie.Need-returns-2 Inv-loop μ-loop
 returns-2 c = sym (c .before .loop .inv .1 ∙ rows-end (c .before .before .args .table .now) 16 5 _ (atomFine 103 _ _) _ (c .loop-test .left))
@@ -49,8 +48,7 @@ each-atom-fine-spec =
     Inv-loop
     μ-loop
     loop-holds
-    mul-atom-fine
-    add-atom-fine
+    atom-requires
     atom-fine-requires
     returns
     add-i

@@ -1,12 +1,10 @@
 -- `soundness::keyed::bonds_fine` meets its contract. Assumes nothing.
 use mathlib.Core.Path.{_∙_}
+use Rattle.format.specs.Structure.{most}
 use Rattle.soundness.proofs.RegionTests.{bonds-is}
 use borrow.Author.Needs.{needs}
 use Rattle.soundness.proofs.keyed.bonds_fine.Statement.{statement}
 use Rattle.soundness.proofs.keyed.bonds_fine.Tie as tie
-
-mul-t5 : tie.Need-mul-t5
-mul-t5 c = search needs
 
 cell-requires : tie.Need-cell-requires
 cell-requires c κs = search needs
@@ -18,6 +16,7 @@ cast-rows : tie.Need-cast-rows
 cast-rows c = search needs
 
 keyed-fine-requires : tie.Need-keyed-fine-requires
+unfolding most
 keyed-fine-requires c κs = search needs
 
 returns : tie.Need-returns
@@ -25,4 +24,4 @@ returns c = c .keyed-fine .ensures ∙ bonds-is (c .before .before .before .args
 
 pub bonds-fine-spec : {M : Type 1} → statement M
 bonds-fine-spec =
-    tie.close (tie.spec mul-t5 cell-requires cell-requires-2 cast-rows keyed-fine-requires returns)
+    tie.close (tie.spec cell-requires cell-requires-2 cast-rows keyed-fine-requires returns)

@@ -5,6 +5,7 @@ use native.Mathlib.Omega.{arith}
 use borrow.Author.Needs.{needs}
 use lib.ListN.{drop}
 use Rattle.soundness.specs.Numbered.{columnOf, inTurn}
+use Rattle.format.proofs.PlaceLaws.{atom-place, atom-small}
 use Rattle.soundness.proofs.NumberedLoop.{higher-le, turn-at-beyond, turn-at-on, turn-whole, turn-void}
 use Rattle.soundness.proofs.NumberedLaws.{turn-none}
 use Rattle.soundness.proofs.numbered.rows_in_order.Statement.{statement}
@@ -22,14 +23,11 @@ returns c = turn-none _ _ (c .if1 .taken) (c .before .pre .2)
 loop-holds : tie.Need-loop-holds Inv-loop μ-loop
 loop-holds c = (omega arith, omega arith, refl)
 
-mul-cell : tie.Need-mul-cell Inv-loop μ-loop
-mul-cell c = omega arith
+atom-requires : tie.Need-atom-requires Inv-loop μ-loop
+atom-requires c κs = search needs
 
 add-cell : tie.Need-add-cell Inv-loop μ-loop
-add-cell c = omega arith
-
-add-cell-2 : tie.Need-add-cell-2 Inv-loop μ-loop
-add-cell-2 c = omega arith
+add-cell c = omega (arith, atom-small _ _ (c .atom .ensures))
 
 cell-requires : tie.Need-cell-requires Inv-loop μ-loop
 cell-requires c κs = search needs
@@ -41,7 +39,7 @@ add-if2 : tie.Need-add-if2 Inv-loop μ-loop
 add-if2 c = omega arith
 
 returns-2 : tie.Need-returns-2 Inv-loop μ-loop
-returns-2 c = sym (c .before .before .before .loop .inv .2 ∙ turn-at-beyond _ _ _ _ _ _ (c .before .before .before .before .before .pre .0) (c .before .before .loop-test .taken) _ (c .before .cell .ensures) (c .if2 .taken))
+returns-2 c = sym (c .before .before .before .before .loop .inv .2 ∙ turn-at-beyond _ _ _ _ _ _ (c .before .before .before .before .before .before .pre .0) (c .before .before .before .loop-test .taken) _ (c .before .before .atom .ensures ∙ atom-place (c .before .before .before .before .loop .i) (omega arith)) _ (c .before .cell .ensures) (c .if2 .taken))
 
 higher-requires : tie.Need-higher-requires Inv-loop μ-loop
 higher-requires c κs = search needs
@@ -53,7 +51,7 @@ loop-less : tie.Need-loop-less Inv-loop μ-loop
 loop-less c = omega arith
 
 loop-again : tie.Need-loop-again Inv-loop μ-loop
-loop-again c = (omega arith, higher-le _ _ _ _ (c .higher .ensures) (c .before .before .before .before .loop .inv .1) (c .before .if2 .left), c .before .before .before .before .loop .inv .2 ∙ turn-at-on _ _ _ _ _ _ (c .before .before .before .before .before .before .pre .0) (c .before .before .before .loop-test .taken) _ _ (c .before .before .cell .ensures) (c .before .if2 .left) (c .higher .ensures))
+loop-again c = (omega arith, higher-le _ _ _ _ (c .higher .ensures) (c .before .before .before .before .before .loop .inv .1) (c .before .if2 .left), c .before .before .before .before .before .loop .inv .2 ∙ turn-at-on _ _ _ _ _ _ (c .before .before .before .before .before .before .before .pre .0) (c .before .before .before .before .loop-test .taken) _ (c .before .before .before .atom .ensures ∙ atom-place (c .before .before .before .before .before .loop .i) (omega arith)) _ _ (c .before .before .cell .ensures) (c .before .if2 .left) (c .higher .ensures))
 
 returns-3 : tie.Need-returns-3 Inv-loop μ-loop
 returns-3 c = sym (c .before .before .loop .inv .2 ∙ turn-whole _ _ _ _ _ _ (c .before .loop-test .left) (c .if3 .taken))
@@ -72,9 +70,8 @@ rows-in-order-spec =
     μ-loop
     returns
     loop-holds
-    mul-cell
+    atom-requires
     add-cell
-    add-cell-2
     cell-requires
     cast-row
     add-if2

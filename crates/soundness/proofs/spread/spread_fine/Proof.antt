@@ -1,13 +1,8 @@
 -- `soundness::spread::spread_fine` meets its contract. Assumes nothing.
-use mathlib.Core.Path.{_∙_}
 use Rattle.soundness.proofs.TestLaws.{stop, pass}
-use Rattle.soundness.proofs.RegionTests.{values-is}
 use borrow.Author.Needs.{needs}
 use Rattle.soundness.proofs.spread.spread_fine.Statement.{statement}
 use Rattle.soundness.proofs.spread.spread_fine.Tie as tie
-
-add-values-fine : tie.Need-add-values-fine
-add-values-fine c = search needs
 
 mul-values-fine : tie.Need-mul-values-fine
 mul-values-fine c = search needs
@@ -25,13 +20,7 @@ values-fine-requires : tie.Need-values-fine-requires
 values-fine-requires c κs = search needs
 
 returns : tie.Need-returns
-returns c = stop _ _ (c .before .values-fine .ensures) _ (c .if1 .taken) ∙ values-is (c .before .before .before .args .table .now) _ _ _
-
-add-all-zero : tie.Need-add-all-zero
-add-all-zero c = search needs
-
-add-all-zero-2 : tie.Need-add-all-zero-2
-add-all-zero-2 c = search needs
+returns c = stop _ _ (c .before .values-fine .ensures) _ (c .if1 .taken)
 
 mul-all-zero : tie.Need-mul-all-zero
 mul-all-zero c = search needs
@@ -49,21 +38,18 @@ all-zero-requires : tie.Need-all-zero-requires
 all-zero-requires c κs = search needs
 
 returns-2 : tie.Need-returns-2
-returns-2 c = pass _ _ (c .before .before .before .values-fine .ensures) _ _ (c .before .before .if1 .left) (c .all-zero .ensures) ∙ values-is (c .before .before .before .before .before .args .table .now) _ _ _
+returns-2 c = pass _ _ (c .before .before .before .values-fine .ensures) _ _ (c .before .before .if1 .left) (c .all-zero .ensures)
 
 pub spread-fine-spec : {M : Type 1} → statement M
 spread-fine-spec =
     tie.close
     (tie.spec
-    add-values-fine
     mul-values-fine
     sub-values-fine
     part-values-fine-start
     part-values-fine-end
     values-fine-requires
     returns
-    add-all-zero
-    add-all-zero-2
     mul-all-zero
     sub-all-zero
     part-all-zero-start

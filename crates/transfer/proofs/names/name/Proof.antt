@@ -1,6 +1,6 @@
 -- `transfer::names::name` meets its contract: a walk of its MIR, by hand. The block stands at a longer lifetime than the stand-in: what it owns is had twice, one
 -- copy is kept for the exit, and the other is taken at the shorter lifetime and goes to `title_or`. Assumes nothing.
-use mathlib.Core.Path.{_≡_, refl}
+use mathlib.Core.Path.{refl}
 use Prim.Native.Nat.{ℕ}
 use mathlib.Core.List.{List, [], _∷_}
 use lib.ListN.{length}
@@ -37,7 +37,7 @@ use denote.Triple.Table.{entered, cited}
 use denote.Triple.Walked.{says, Stays, stay-none-slice, walkOf, goes-none-slice, Walks, ends-at, walked, walk-meets}
 use denote.Exit.{yes}
 use denote.Triple.Clauses.{ensured, lasts}
-use Rattle.format.specs.Walking.{nameOf}
+use Rattle.transfer.specs.Texts.{Named}
 use Rattle.transfer.proofs.names.title_or as callee
 use Rattle.transfer.proofs.names.title_or.Symbol as callee-symbol
 use Rattle.transfer.proofs.names.title_or.Symbol.{name as #title-or}
@@ -66,8 +66,8 @@ module _ {M : Type 1} (𝓤 : URA M) (H : Heap 𝓤) (A : Atoms 𝓤) (W : Given
   abbrev vy : Val
   vy = sliceVal (y .ptr) (length (y .now))
 
-  abbrev found : List ℕ
-  found = nameOf (now x) (now y)
+  abbrev Said : RefT (List ℕ) → Type 0
+  Said r = Named (now x) (now y) (now r)
 
   abbrev Post : Val → SProp 𝓤
   Post = walkOf 𝓤 H A own.ended stayed (own.clauses 𝓤 H A mem run) .post ((κs, (q, (q′, tt)), (inc, tt), (x, (y, tt)), (vx ∷ [], (vy ∷ [], tt))), tt)
@@ -97,13 +97,13 @@ module _ {M : Type 1} (𝓤 : URA M) (H : Heap 𝓤) (A : Atoms 𝓤) (W : Given
   asked : ent 𝓤 (onEntry 𝓤 H A callee.signature (κ′, tt) (q′, tt) (x, (y, tt)) passed) (TitleOr 𝓤 H A mem run .pre to)
   asked = qed W ((‵ (flft κ′ q′) ⊛ ‵ ftrue) ∷ ‵ (owns (ShrSlice (named 0) κ′ u8 ∷ ShrSlice (named 0) κ′ u8 ∷ []) (x, (y, tt)) passed) ∷ []) ∵ join ! $ frame ! $ done !
 
-  said : (r : RefT (List ℕ)) → ent 𝓤 (ensured 𝓤 H A callee.ended (callee.clauses 𝓤 H A mem run) (κ′, tt) (x, (y, tt)) tt r) (fact 𝓤 (now r ≡ found))
-  said r = exE 𝓤 _ (λ ws. snd∗ 𝓤 (sem 𝓤 H A (lasts callee.ended (κ′, tt) (x, (y, tt)) ws)) (fact 𝓤 (now r ≡ found)))
+  said : (r : RefT (List ℕ)) → ent 𝓤 (ensured 𝓤 H A callee.ended (callee.clauses 𝓤 H A mem run) (κ′, tt) (x, (y, tt)) tt r) (fact 𝓤 (Said r))
+  said r = exE 𝓤 _ (λ ws. snd∗ 𝓤 (sem 𝓤 H A (lasts callee.ended (κ′, tt) (x, (y, tt)) ws)) (fact 𝓤 (Said r)))
 
   abbrev OwnR : RefT (List ℕ) → Val → Fml
   OwnR r u = ShrSlice (named 1) κ′ u8 .own r (u ∷ [])
 
-  exits : (r : RefT (List ℕ)) (u : Val) → now r ≡ found → ent 𝓤 (⋆ 𝓤 H A (‵ (OwnR r u) ∷ (‵ (flft κ′ q′) ⊛ ‵ ftrue) ∷ ‵ OwnY ∷ ‵ OwnX ∷ ‵ (flft κ q) ∷ [])) (Post u)
+  exits : (r : RefT (List ℕ)) (u : Val) → Said r → ent 𝓤 (⋆ 𝓤 H A (‵ (OwnR r u) ∷ (‵ (flft κ′ q′) ⊛ ‵ ftrue) ∷ ‵ OwnY ∷ ‵ OwnX ∷ ‵ (flft κ q) ∷ [])) (Post u)
   exits r u e =
       qed W (‵ (OwnR r u) ∷ (‵ (flft κ′ q′) ⊛ ‵ ftrue) ∷ ‵ OwnY ∷ ‵ OwnX ∷ ‵ (flft κ q) ∷ []) ∵
       suffices ! _ (ends-at 𝓤 H A own.ended stayed (own.clauses 𝓤 H A mem run) W ((κs, (q, (q′, tt)), (inc, tt), (x, (y, tt)), (vx ∷ [], (vy ∷ [], tt))), tt) u r (tt, (tt, tt)) (tt, (tt, tt))) $ says ! e $
@@ -126,7 +126,7 @@ module _ {M : Type 1} (𝓤 : URA M) (H : Heap 𝓤) (A : Atoms 𝓤) (W : Given
         -- [what the callee asks; y; x; the longer token; _2; …; _1; …; room for _0; …]
         calls-at ! fm (TitleOr 𝓤 H A mem run) known to (and-then ! (load ! (from ! (stop !)) (look ! 6 refl)) (and-then ! (load ! (from ! (stop !)) (look ! 4 refl)) (no-more !))) (λ u.
         use1 W (later (some (λ (r : RefT (List ℕ)). ((‵ (flft κ′ q′) ⊛ ‵ ftrue) ⊛ ‵ (OwnR r u)) ⊛ raw (ensured 𝓤 H A callee.ended (callee.clauses 𝓤 H A mem run) (κ′, tt) (x, (y, tt)) tt r)))) (id⊢ 𝓤 _) $ await ! tt $ pick ! (λ r.
-        split ! $ move ! (1 ∷ []) $ use1 W (raw (fact 𝓤 (now r ≡ found))) (said r) $ heard ! (now r ≡ found) (λ e. split ! $ move ! (1 ∷ []) $
+        split ! $ move ! (1 ∷ []) $ use1 W (raw (fact 𝓤 (Said r))) (said r) $ heard ! (Said r) (λ e. split ! $ move ! (1 ∷ []) $
         -- [the result; the shorter token; y; x; the longer token; _2; …; _1; …; room for _0; …]
         peeks ! (ShrSlice (named 1) κ′ u8) (Is (ShrSlice (named 1) κ′ u8)) (shows 𝓤 H A (ShrSlice (named 1) κ′ u8)) r (u ∷ []) (λ is.
         land ! (from ! (stop !)) (init ! 9 refl (shr-slice-lawful 𝓤 H A W (named 1) κ′ u8 .typed r _ is .0)) $

@@ -1,5 +1,4 @@
 -- The title or the stand-in: the name from the title's part. Assumes nothing.
-use mathlib.Core.Path.{sym}
 use native.Mathlib.Omega.{arith}
 use borrow.Author.Needs.{needs}
 use Rattle.transfer.proofs.NameLaws.{name-empty, name-shown}
@@ -10,7 +9,7 @@ title-requires : tie.Need-title-requires
 title-requires c κs = search needs
 
 returns : tie.Need-returns
-returns c = sym (name-empty _ _ _ (c .before .title .ensures) (c .if1 .taken))
+returns c = name-empty _ _ _ (c .before .title .ensures) (c .if1 .taken)
 
 sub-result : tie.Need-sub-result
 sub-result c = search needs

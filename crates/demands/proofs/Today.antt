@@ -1,0 +1,49 @@
+-- The three demands at the 103 elements of today: the theorems for every number of elements, with nothing left to ask of it. Restated in Demands.antt. Assumes nothing.
+use Prim.Native.Nat.{ℕ, _≤_}
+use native.Mathlib.Omega.{arith}
+use Rattle.demands.specs.Demands.{Demand1, Demand2, Demand3}
+use Rattle.format.proofs.RefusedLaws as short
+use Rattle.demands.proofs.Accepted as accepted
+use Rattle.demands.proofs.AcceptedSound as kept
+use Rattle.demands.proofs.ReadAs as read
+use Rattle.demands.proofs.Refused as refused
+use Rattle.demands.proofs.Stretches as stretches
+use Rattle.demands.proofs.TextsTold as told
+use Rattle.demands.proofs.WayBack as back
+use Rattle.demands.proofs.WayBackTables as tables
+use Rattle.demands.proofs.WayBackSound as again
+use Rattle.demands.proofs.WayBackWalk as walk
+
+one : 1 ≤ 103
+one = omega arith
+
+most : 103 ≤ 103
+most = omega arith
+
+pub demand-1 : Demand1 103
+demand-1 = record { refused-zero = refused.refused-zero 103; short-untouched = short.short-untouched 103; refused-write = refused.refused-write 103 }
+
+pub demand-2 : Demand2 103
+demand-2 = record {
+  accepted-iff = accepted.accepted-iff 103;
+  table-is = read.table-is 103;
+  read-sound = λ b s spans. kept.read-sound 103 b s spans one;
+  accepted-sound = λ b t. kept.accepted-sound 103 b t one;
+  read-written = λ b t. kept.read-written 103 b t one;
+  read-then-written = λ b t. kept.read-then-written 103 b t one;
+  read-written-read = λ b t wide given buffer into. kept.read-written-read 103 b t one wide given buffer into most;
+  way-back = λ s title origin owner. back.way-back 103 s title origin owner most;
+  table-back = λ t b buffer into. tables.table-back 103 t b buffer into most;
+  written-again = λ s title origin owner. again.written-again 103 s title origin owner most;
+  canonical-lines = λ s title origin owner. walk.canonical-lines 103 s title origin owner most;
+  canonical-piece = λ s title origin owner. walk.canonical-piece 103 s title origin owner most;
+}
+
+pub demand-3 : Demand3 103
+demand-3 = record {
+  three-stretches = stretches.three-stretches 103;
+  accepted-texts = told.accepted-texts 103;
+  refused-texts = told.refused-texts 103;
+  texts-told = λ s. told.texts-told 103 s one;
+  accepted-has-end = stretches.accepted-has-end 103;
+}

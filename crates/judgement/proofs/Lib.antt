@@ -1,0 +1,7 @@
+-- The laws of a judgement, file by file. Assumes nothing.
+pub mod SeenLaws
+pub mod ValueLaws
+pub mod LineTurnLaws
+pub mod StepTurnLaws
+pub mod LabelTurnLaws
+pub mod BlockLaws

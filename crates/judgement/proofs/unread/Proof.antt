@@ -1,0 +1,10 @@
+-- `judgement::unread` meets its contract. Assumes nothing.
+use mathlib.Core.Path.{refl}
+use Rattle.judgement.proofs.unread.Statement.{statement}
+use Rattle.judgement.proofs.unread.Tie as tie
+
+returns : tie.Need-returns
+returns c = refl
+
+pub unread-spec : {M : Type 1} → statement M
+unread-spec = tie.close (tie.spec returns)

@@ -1,0 +1,45 @@
+// The reader's scratch: where each list's rows stand in it, and how many numbers they take. Each follows from a limit of the table's type.
+use format::Table;
+
+// Natural numbers that a reading lends; the type holds nothing of its own.
+pub struct Scratch;
+
+impl Scratch {
+    // How many numbers a list's region has: three for each atom; for charges and for radicals a row's number for each atom, the rows' values and the row without atoms; two
+    // for each bond, centre and pair; one for each label.
+    pub const KINDS: usize = 3 * Table::ATOMS;
+
+    pub const SPREAD: usize = Table::ATOMS + Table::CHARGES + 1;
+
+    pub const BONDS: usize = 2 * Table::BONDS;
+
+    pub const CENTRES: usize = 2 * Table::CENTRES;
+
+    pub const PAIRS: usize = 2 * Table::PAIRS;
+
+    pub const LABELS: usize = 14;
+
+    // Where each region starts; the atoms' at 0.
+    pub const FIRST_CHARGE: usize = Self::KINDS;
+
+    pub const FIRST_RADICAL: usize = Self::FIRST_CHARGE + Self::SPREAD;
+
+    pub const FIRST_BOND: usize = Self::FIRST_RADICAL + Self::SPREAD;
+
+    pub const FIRST_CENTRE: usize = Self::FIRST_BOND + Self::BONDS;
+
+    pub const FIRST_PAIR: usize = Self::FIRST_CENTRE + Self::CENTRES;
+
+    pub const FIRST_LABEL: usize = Self::FIRST_PAIR + Self::PAIRS;
+
+    // How many numbers the scratch has.
+    pub const SIZE: usize = Self::FIRST_LABEL + Self::LABELS;
+
+    // In a region of charges or radicals: where the row without atoms stands.
+    pub const WITHOUT_ATOMS: usize = Table::ATOMS + Table::CHARGES;
+
+    // A key is the lower atom times this, plus the higher one; a payload is the value times this, plus the group's byte.
+    pub const KEY: u32 = 1024;
+
+    pub const PAYLOAD: u32 = 256;
+}
