@@ -1,15 +1,38 @@
-//! The examples of docs/DECISIONS.md are run: tables `| block | answer | other reading |` against
-//! the reader, tables `| file | walk prints | other reading |` against the program's lines.
+//! The examples of docs/DECISIONS.md are run, table by table, by what its first two columns are
+//! headed: a block's answer, its answer and what is left in a lent table, its name to show, the
+//! number that the C door answers, and the lines that the program prints for a file.
 //!
 //! Notation of a block or file, in backticks: bytes with the escapes \n \r \t \\ \xHH and \p for a
-//! vertical bar; or `@PLACE: text`, neon with the line at that place replaced; `@PLACE-`, neon
-//! without it; `@88+ text`, neon with text behind it.
+//! vertical bar, and \{1-9:text} for a text once for each of these numbers, \i in it the number; or
+//! `@PLACE: text`, neon with the line at that place replaced; `@PLACE-`, neon without it;
+//! `@88+ text`, neon with text behind it.
 
 use galebonnet_tests::generate::neon::{followed, removed, replaced, NEON};
-use galebonnet_tests::independent::{read, walk_lines};
+use galebonnet_tests::independent::{check, name, read, walk_lines};
 
-const BLOCKS: [&str; 3] = ["block", "answer", "other reading"];
-const FILES: [&str; 3] = ["file", "walk prints", "other reading"];
+/// What a table's examples are run against, by its header; the last column is the other reading.
+#[derive(Clone, Copy)]
+enum Run {
+    Answer,
+    Lent,
+    Name,
+    Door,
+    Walk,
+}
+
+const HEADERS: [([&str; 3], Run); 5] = [
+    (["block", "answer", "other reading"], Run::Answer),
+    (["block and numbers lent", "answer and table", "other reading"], Run::Lent),
+    (["block", "name to show, `?` the stand-in", "other reading"], Run::Name),
+    (["block", "number at the C door", "other reading"], Run::Door),
+    (["file", "walk prints", "other reading"], Run::Walk),
+];
+
+/// How many numbers a table has.
+const TABLE: usize = 3856;
+
+/// What every number of a lent table is before the reading.
+const BEFORE: i32 = 7;
 
 /// The bytes of a text with escapes.
 fn unescaped(text: &str) -> Result<Vec<u8>, String> {
@@ -26,6 +49,11 @@ fn unescaped(text: &str) -> Result<Vec<u8>, String> {
             Some(b't') => b'\t',
             Some(b'p') => b'|',
             Some(b'\\') => b'\\',
+            Some(b'{') => {
+                let inside: Vec<u8> = rest.by_ref().take_while(|&byte| byte != b'}').collect();
+                bytes.extend(repeated(&String::from_utf8_lossy(&inside))?);
+                continue;
+            }
             Some(b'x') => {
                 let digits: String = rest.by_ref().take(2).map(char::from).collect();
                 let is_hex = digits.len() == 2 && digits.bytes().all(|digit| digit.is_ascii_hexdigit());
@@ -34,6 +62,18 @@ fn unescaped(text: &str) -> Result<Vec<u8>, String> {
             }
             other => return Err(format!("no escape: {:?}", other.map(char::from))),
         });
+    }
+    Ok(bytes)
+}
+
+/// The bytes of `FROM-TO:text`: the text once for each number, in which `\i` is the number.
+fn repeated(notation: &str) -> Result<Vec<u8>, String> {
+    let parts = notation.split_once(':').and_then(|(range, text)| Some((range.split_once('-')?, text)));
+    let ((from, to), text) = parts.ok_or(format!("no FROM-TO:text: {notation}"))?;
+    let number = |digits: &str| digits.parse::<usize>().map_err(|_| format!("no number: {digits}"));
+    let mut bytes = Vec::new();
+    for one in number(from)?..=number(to)? {
+        bytes.extend(unescaped(&text.replace("\\i", &one.to_string()))?);
     }
     Ok(bytes)
 }
@@ -64,17 +104,47 @@ fn cells(line: &str) -> Option<Vec<&str>> {
     Some(inside.split('|').map(str::trim).collect())
 }
 
-/// Compares one row with the reader or the walk.
-fn run_row(cells: &[&str], is_block: bool) -> Result<(), String> {
-    let [input, expected, other] = cells else { return Err(format!("{} cells", cells.len())) };
-    let input = meant(quoted(input)?)?;
-    let expected = quoted(expected)?;
-    let answered = if is_block {
-        let answer = read(&input, &mut vec![0; 3856]);
-        format!("{}@{}", answer.number, answer.place)
-    } else {
-        walk_lines(&input).lines().collect::<Vec<&str>>().join("; ")
+/// The answer for a block read into a table of so many numbers, none of them 0 before, and what is
+/// left there: `untouched`, `zeroed` or `filled`, the numbers beyond the table as they were.
+fn lent(block: &[u8], numbers: usize) -> String {
+    let mut table = vec![BEFORE; numbers];
+    let answer = read(block, &mut table);
+    let mut whole = vec![0; TABLE];
+    read(block, &mut whole);
+    let (own, beyond) = table.split_at(TABLE.min(numbers));
+    let left = match own {
+        _ if beyond.iter().any(|&number| number != BEFORE) => "touched beyond",
+        own if own.iter().all(|&number| number == BEFORE) => "untouched",
+        own if own.iter().all(|&number| number == 0) => "zeroed",
+        own if own == whole => "filled",
+        _ => "something else",
     };
+    format!("{}@{} {left}", answer.number, answer.place)
+}
+
+/// What is answered for an example.
+fn answered(input: &str, run: Run) -> Result<String, String> {
+    Ok(match run {
+        Run::Answer => {
+            let answer = read(&meant(quoted(input)?)?, &mut vec![0; TABLE]);
+            format!("{}@{}", answer.number, answer.place)
+        }
+        Run::Lent => {
+            let (block, numbers) = input.rsplit_once(", ").ok_or(format!("no numbers lent: {input}"))?;
+            let numbers = numbers.parse().map_err(|_| format!("no number: {numbers}"))?;
+            lent(&meant(quoted(block)?)?, numbers)
+        }
+        Run::Name => String::from_utf8_lossy(name(&meant(quoted(input)?)?, b"?")).replace('\n', "\\n"),
+        Run::Door => check(&meant(quoted(input)?)?).to_string(),
+        Run::Walk => walk_lines(&meant(quoted(input)?)?).lines().collect::<Vec<&str>>().join("; "),
+    })
+}
+
+/// Compares one row with what is answered for its example.
+fn run_row(cells: &[&str], run: Run) -> Result<(), String> {
+    let [input, expected, other] = cells else { return Err(format!("{} cells", cells.len())) };
+    let answered = answered(input, run)?;
+    let expected = quoted(expected)?;
     if answered != expected {
         return Err(format!("answered {answered}, not {expected}"));
     }
@@ -90,10 +160,8 @@ fn run_page(page: &str) -> (usize, Vec<String>) {
     let mut faults = Vec::new();
     let mut lines = page.lines().zip(1..);
     while let Some((header, _)) = lines.next() {
-        let is_block = cells(header).is_some_and(|cells| cells == BLOCKS);
-        if !is_block && cells(header).is_none_or(|cells| cells != FILES) {
-            continue;
-        }
+        let run = cells(header).and_then(|cells| HEADERS.iter().find(|(header, _)| cells == header));
+        let Some(&(_, run)) = run else { continue };
         let is_rule = |cell: &&str| !cell.is_empty() && cell.chars().all(|one| one == '-' || one == ':');
         if !lines.next().and_then(|(line, _)| cells(line)).is_some_and(|cells| cells.iter().all(is_rule)) {
             faults.push(format!("no rule below the header {header}"));
@@ -101,7 +169,7 @@ fn run_page(page: &str) -> (usize, Vec<String>) {
         for (line, number) in lines.by_ref().take_while(|(line, _)| line.trim_start().starts_with('|')) {
             rows += 1;
             let row = cells(line).ok_or("no closing bar".to_string());
-            if let Err(fault) = row.and_then(|cells| run_row(&cells, is_block)) {
+            if let Err(fault) = row.and_then(|cells| run_row(&cells, run)) {
                 faults.push(format!("line {number}: {fault}: {line}"));
             }
         }
@@ -125,7 +193,8 @@ fn the_notation_is_read() {
     assert_eq!(meant("@76: 2 Ne"), Ok(NEON.replace("1 Ne", "2 Ne").into_bytes()));
     assert_eq!(meant("@81-"), Ok(NEON.as_bytes()[..81].to_vec()));
     assert_eq!(meant("@88+  x"), Ok(format!("{NEON} x").into_bytes()));
-    for wrong in ["@77: x", "@88: x", "@88-", "@87+ x", "@: x", "@76", "\\q", "\\x1", "\\x+1", "a\\"] {
+    assert_eq!(meant("a\\{9-11:\\i \\n}b").as_deref(), Ok(&b"a9 \n10 \n11 \nb"[..]));
+    for wrong in ["\\{1-2}", "\\{1:x}", "\\{a-2:x}", "@77: x", "@88: x", "@88-", "@87+ x", "@: x", "@76", "\\q", "\\x1", "\\x+1", "a\\"] {
         assert!(meant(wrong).is_err(), "{wrong}");
     }
 }
@@ -145,6 +214,16 @@ fn a_wrong_row_is_a_fault() {
     assert_eq!(run(block, "| `@76: 2 Ne` | 11@76 | 12 |"), 1);
     assert_eq!(run(block, "| `@76: 2 Ne` | `11@76` |"), 1);
     assert_eq!(run(block, "| `` | `4@0` | `16@0` |"), 0);
+    let lent = "| block and numbers lent | answer and table | other reading |";
+    assert_eq!(run(lent, "| `@76: 2 Ne`, 3857 | `11@76 zeroed` | `11@76 untouched` |"), 0);
+    assert_eq!(run(lent, "| `@76: 2 Ne`, 3855 | `11@76 zeroed` | 1 |"), 1);
+    assert_eq!(run(lent, "| `@76: 1 Ne`, 3856 | `0@0 filled` | 1 |"), 0);
+    let shown = "| block | name to show, `?` the stand-in | other reading |";
+    assert_eq!(run(shown, "| `##TITLE= a` | `a` | `?` |"), 0);
+    assert_eq!(run(shown, "| `##TITLE=` | `a` | `?` |"), 1);
+    let door = "| block | number at the C door | other reading |";
+    assert_eq!(run(door, "| `@76: 2 Ne` | `47244640332` | 11 |"), 0);
+    assert_eq!(run(door, "| `@76: 2 Ne` | `11` | 76 |"), 1);
     let file = "| file | walk prints | other reading |";
     assert_eq!(run(file, "| `@88+ junk\\n` | `B 0 88 0 0 1 0; S 88 93` | one block |"), 0);
     assert_eq!(run(file, "| `@88+ junk\\n` | `B 0 88 0 0 1 0` | one block |"), 1);
