@@ -20,7 +20,7 @@ use Rattle.format.specs.Table.{cell, rowWith, atomCells, atomAt}
 use Rattle.format.proofs.ByteLaws.{within-true, within-is}
 use Rattle.soundness.specs.Numbered.{column}
 use Rattle.soundness.specs.Sounding.{numberAt, atomFine}
-use Rattle.soundness.proofs.NumberedLaws.{upTo}
+use Rattle.soundness.proofs.InTurnLaws.{upTo}
 use Rattle.soundness.proofs.SplitLaws.{Ranged, ranged-of, ranging-of, ranging-pos}
 
 abbrev pub records : (n : ℕ) → List ℤ → List (List ℤ)

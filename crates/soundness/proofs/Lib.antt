@@ -1,5 +1,6 @@
 -- The laws of this crate's functions, file by file. Assumes nothing.
 pub mod NumberedLaws
+pub mod InTurnLaws
 pub mod NumberedLoop
 pub mod SplitLaws
 pub mod KeyLaws

@@ -26,6 +26,7 @@ use Rattle.soundness.proofs.SplitLaws.{region-split, region-joined}
 use Rattle.soundness.proofs.KeyLaws.{Keyed}
 use Rattle.soundness.proofs.KeyedLaws.{Says, cells-long, keyed-there, keyed-back}
 use Rattle.soundness.proofs.NumberedLaws as numbered
+use Rattle.soundness.proofs.InTurnLaws.{upTo, charges-meet, radicals-meet, in-turn}
 
 -- A LIST'S ROWS, n atoms and m rows at most; the test of the definitions, and its parts
 abbrev pub rowsTest : ListOf → (n m : ℕ) → List Row → Bool
@@ -99,17 +100,17 @@ radical-cells p j records (v ∷ vs) = ap (λ (l : List ℤ). v ∷ l) (radical-
 
 pub charges-spread : Spread Charges true
 unfolding arity valueFine ranged
-charges-spread = record { none = refl; values-are = λ v. refl; meeting = numbered.charges-meet; cells = charge-cells }
+charges-spread = record { none = refl; values-are = λ v. refl; meeting = charges-meet; cells = charge-cells }
 
 pub radicals-spread : Spread Radicals false
 unfolding arity valueFine ranged
-radicals-spread = record { none = refl; values-are = λ v. refl; meeting = numbered.radicals-meet; cells = radical-cells }
+radicals-spread = record { none = refl; values-are = λ v. refl; meeting = radicals-meet; cells = radical-cells }
 
 pub spread-many : (p : ℕ) (records : List (List ℤ)) (vs : List ℤ) → length (spreadAt p 1 records vs) ≡ length vs
 spread-many p records vs = ap length (numbered.rows-are p 1 records vs) ∙ numbered.rows-length 1 1 (column p records) vs
 
 module _ (l : ListOf) (signed : Bool) (S : Spread l signed) (p n : ℕ) (records : List (List ℤ)) (recorded : length records ≡ n) (t : List ℤ) (base c : ℕ) (few : c ≤ 64) (long : base + 64 ≤ length t)
-    (up : numbered.upTo c (column p records) ≡ true) where
+    (up : upTo c (column p records) ≡ true) where
   abbrev values : List ℤ
   values = take c (drop base t)
 
@@ -121,7 +122,7 @@ module _ (l : ListOf) (signed : Bool) (S : Spread l signed) (p n : ℕ) (records
 
   turn-is : inTurn 0 c (column p records) ≡ (ascends rowBefore spreadRows && not (pairs (meets l) spreadRows))
   turn-is =
-      ap (λ (i : ℕ). inTurn 0 i (column p records)) (sym as-many) ∙ numbered.in-turn p records values (ap (λ (i : ℕ). numbered.upTo i (column p records)) as-many ∙ up)
+      ap (λ (i : ℕ). inTurn 0 i (column p records)) (sym as-many) ∙ in-turn p records values (ap (λ (i : ℕ). upTo i (column p records)) as-many ∙ up)
       ∙ ap (λ (b : Bool). ascends rowBefore spreadRows && not b) (sym (S .meeting spreadRows))
 
   cells-same : length (flat (rowCells l) spreadRows) ≡ c

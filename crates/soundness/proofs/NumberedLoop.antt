@@ -21,7 +21,8 @@ use Rattle.format.specs.Rows.{Row}
 use Rattle.format.specs.Structure.{meets, rowBefore}
 use Rattle.format.specs.Table.{cell, countAt, atomRecords, spreadAt}
 use Rattle.soundness.specs.Numbered.{column, columnOf, inTurn}
-use Rattle.soundness.proofs.NumberedLaws.{turn-nil, turn-beyond, turn-on, column-length, column-at, upTo, overlaps, in-turn}
+use Rattle.soundness.proofs.NumberedLaws.{column-length, column-at}
+use Rattle.soundness.proofs.InTurnLaws.{turn-nil, turn-beyond, turn-on, upTo, overlaps, in-turn}
 
 -- THE CELLS
 column-is : (p n : ℕ) (t : List ℤ) → columnOf p n t ≡ column p (rowsFrom 5 (take 5) n (drop 16 t))

@@ -18,7 +18,7 @@ use Rattle.format.proofs.PlaceLaws.{rows-behind}
 use Rattle.soundness.specs.Numbered.{columnOf, inTurn}
 use Rattle.soundness.specs.Sounding.{unused, countsFine, headerFine, atomFine, atomsFine, recordsFine, keyedFine, bondsFine, centresFine, pairsFine, valueFine, valuesFine, chargesFine, radicalsFine, listsFine, regionsFine}
 use Rattle.soundness.proofs.AtomLaws.{columns-fine}
-use Rattle.soundness.proofs.NumberedLaws.{upTo}
+use Rattle.soundness.proofs.InTurnLaws.{upTo}
 use Rattle.soundness.proofs.HeaderLaws.{Header, counts-parts}
 use Rattle.soundness.proofs.RegionsLaws.{sound-regions}
 
@@ -47,15 +47,20 @@ module _ (t : List ℤ) where
   atoms-is n c r e f g from s =
       ap (λ (b : Bool). all (λ b. b) (rowsFrom 5 (atomFine 103 c r) n (drop 16 t)) && b) (stretch from 1296 (16 + 5 * n) (1280 - 5 * n) s (omega arith)) ∙ rw (e, f, g)
 
-  pub keyed-is : (members low high : ℕ) (grouped : Bool) (first w room n rows from end : ℕ) → from ≡ first + w * rows → end ≡ first + room →
-      (recordsFine members low high grouped w n rows (drop first t) && unused (take (end - from) (drop from t))) ≡ keyedFine members low high grouped first w room n rows t
-  unfolding keyedFine
-  keyed-is members low high grouped first w room n rows from end s e =
-      ap (λ (b : Bool). recordsFine members low high grouped w n rows (drop first t) && b) (stretch from end (first + w * rows) (room - w * rows) s (omega arith))
+  -- behind so many records of a list
+  pub rest-is : (first w room rows from end : ℕ) → from ≡ first + w * rows → end ≡ first + room →
+      unused (take (end - from) (drop from t)) ≡ unused (take (room - w * rows) (drop (first + w * rows) t))
+  rest-is first w room rows from end s e = stretch from end (first + w * rows) (room - w * rows) s (omega arith)
 
-  pub bonds-is : (n c : ℕ) → n ≡ cell t 0 → c ≡ cell t 1 → keyedFine 2 1 5 false (base Bonds) (width Bonds) (width Bonds * most Bonds) n c t ≡ bondsFine t
+  pub keyed-is : (members low high : ℕ) (grouped : Bool) (first w room n rows : ℕ) →
+      (recordsFine members low high grouped w n rows (drop first t) && unused (take (room - w * rows) (drop (first + w * rows) t))) ≡ keyedFine members low high grouped first w room n rows t
+  unfolding keyedFine
+  keyed-is members low high grouped first w room n rows = refl
+
+  pub bonds-is : (n c : ℕ) → n ≡ cell t 0 → c ≡ cell t 1 →
+      (recordsFine 2 1 5 false (width Bonds) n c (drop (base Bonds) t) && unused (take (width Bonds * most Bonds - width Bonds * c) (drop (base Bonds + width Bonds * c) t))) ≡ bondsFine t
   unfolding bondsFine base width most
-  bonds-is n c e f = rw (e, f)
+  bonds-is n c e f = keyed-is 2 1 5 false (base Bonds) (width Bonds) (width Bonds * most Bonds) n c ∙ rw (e, f)
 
   pub centres-is : (n c : ℕ) → n ≡ cell t 0 → c ≡ cell t 4 → keyedFine 1 1 2 true (base Centres) (width Centres) (width Centres * most Centres) n c t ≡ centresFine t
   unfolding centresFine base width most

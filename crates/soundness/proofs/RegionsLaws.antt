@@ -23,7 +23,8 @@ use Rattle.format.specs.Structure.{Atom, Structure, rowsOf, most, atomOk, wellF
 use Rattle.format.specs.Table.{cell, base, width, rowWith, atomCells, rowCells, rowsPart, spanCells, encode, markedAt, bondAt, spreadAt, decode, spansOf, sameNumber, soundNumbers}
 use Rattle.soundness.specs.Numbered.{column, columnOf}
 use Rattle.soundness.specs.Sounding.{unused, headerFine, countsFine, placesFine, atomFine, atomsFine, recordKey, recordsFine, keyedFine, bondsFine, centresFine, pairsFine, valuesFine, chargesFine, radicalsFine, listsFine, regionsFine}
-use Rattle.soundness.proofs.NumberedLaws.{upTo, column-at, column-length, row-back}
+use Rattle.soundness.proofs.NumberedLaws.{column-at, column-length, row-back}
+use Rattle.soundness.proofs.InTurnLaws.{upTo}
 use Rattle.soundness.proofs.SplitLaws.{region-split, region-joined}
 use Rattle.soundness.proofs.KeyLaws.{bonds-keyed, centres-keyed, pairs-keyed}
 use Rattle.soundness.proofs.KeyedLaws.{cells-long}

@@ -1,12 +1,14 @@
-// Lists that stand by their atoms, bonds, centres and pairs: document 01, "The structure table" ("Bonds, centres and pairs ascend by their atoms."). One test for
-// the three; what a record of each has is its shape.
+// Lists that stand by their atoms, bonds, centres and pairs: document 01, "The structure table" ("Bonds, centres and pairs ascend by their atoms."). One test of
+// a record for the three; what a record of each has is its shape.
 ghost use mathlib.Core.Path.{_≡_};
-ghost use Prim.Native.Nat.{_*_, _≤_};
-ghost use lib.ListN.{length, drop, getD};
+ghost use mathlib.Core.Bool.{false};
+ghost use Prim.Native.Nat.{_+_, _-_, _*_, _≤_};
+ghost use lib.ListN.{length, take, drop, getD};
 ghost use lib.IntN.{pos};
+ghost use Rattle.format.specs.Labels.{Bonds};
 ghost use Rattle.format.specs.Structure.{most};
 ghost use Rattle.format.specs.Table.{base, width, rowPlace, cell as cellOf};
-ghost use Rattle.soundness.specs.Sounding.{listOf, regionEnd, groupFine, markFine, atomsKey, recordKey, recordsFine, keyedFine, bondsFine, centresFine, pairsFine};
+ghost use Rattle.soundness.specs.Sounding.{listOf, regionEnd, unused, groupFine, markFine, atomsKey, recordKey, recordsFine, keyedFine, bondsFine, centresFine, pairsFine};
 use crate::parts::all_zero;
 use crate::parts::unused_from;
 use cells::cell;
@@ -130,6 +132,41 @@ fn records_fine(table: &[i32], shape: Shape, atoms: u32, rows: usize) -> bool
     true
 }
 
+// The same of bonds, which are most of a table: what a record has is known here, so that the compiler leaves no question about it in the loop.
+fn bond_records_fine(table: &[i32], atoms: u32, rows: usize) -> bool
+    requires { ⌜ (rows ≤ most Bonds) × (atoms ≤ 256) ⌝ }
+    ensures { λ r. ⌜ r ≡ recordsFine 2 1 5 false (width Bonds) atoms rows (drop (base Bonds) (now (table .entry))) ⌝ }
+{
+    let bonds = Shape {
+        list: Ordered::Bond,
+        members: 2,
+        low: 1,
+        high: 5,
+        grouped: false,
+    };
+    let mut last = 0;
+    let mut i = 0;
+    while i < rows {
+        let key = record_key(table, Table::bond(i), bonds, atoms);
+        if key <= last {
+            return false;
+        }
+        last = key;
+        i += 1;
+    }
+    true
+}
+
+// Whether the list's region is 0 behind so many records.
+fn rest_zero(table: &[i32], list: Ordered, rows: usize) -> bool
+    requires { ⌜ (3856 ≤ length (now table)) × (rows ≤ most (listOf list)) ⌝ }
+    ensures { λ r. ⌜ r ≡ unused (take (width (listOf list) * most (listOf list) - width (listOf list) * rows) (drop (base (listOf list) + width (listOf list) * rows) (now (table .entry)))) ⌝ }
+{
+    let end = region_end(list);
+    let from = unused_from(record_at(list, rows), end);
+    all_zero(&table[from..end])
+}
+
 // Whether a list's region is fine: the records, and 0 behind the last.
 fn keyed_fine(table: &[i32], shape: Shape, atoms: u32, rows: usize) -> bool
     requires { ⌜ (3856 ≤ length (now table)) × (rows ≤ most (listOf (shape .list))) × (shape .members ≤ 2) × (atoms ≤ 256) ⌝ }
@@ -139,9 +176,7 @@ fn keyed_fine(table: &[i32], shape: Shape, atoms: u32, rows: usize) -> bool
         return false;
     }
     let list = shape.list;
-    let end = region_end(list);
-    let from = unused_from(record_at(list, rows), end);
-    all_zero(&table[from..end])
+    rest_zero(table, list, rows)
 }
 
 // "512 bonds: lower atom, higher atom, kind 1 to 5 for S, D, T, Q, A".
@@ -149,16 +184,12 @@ pub fn bonds_fine(table: &[i32]) -> bool
     requires { ⌜ (3856 ≤ length (now table)) × (cellOf (now table) 0 ≤ 256) × (cellOf (now table) 1 ≤ 512) ⌝ }
     ensures { λ r. ⌜ r ≡ bondsFine (now (table .entry)) ⌝ }
 {
-    let bonds = Shape {
-        list: Ordered::Bond,
-        members: 2,
-        low: 1,
-        high: 5,
-        grouped: false,
-    };
     let atoms = cell(table, Table::ATOM_COUNT);
     let rows = cell(table, Table::BOND_COUNT) as usize;
-    keyed_fine(table, bonds, atoms, rows)
+    if !bond_records_fine(table, atoms, rows) {
+        return false;
+    }
+    rest_zero(table, Ordered::Bond, rows)
 }
 
 // "128 centres: atom, 1 P or 2 M, group byte (0 for `0`)".

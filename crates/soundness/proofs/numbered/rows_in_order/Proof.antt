@@ -7,7 +7,7 @@ use lib.ListN.{drop}
 use Rattle.soundness.specs.Numbered.{columnOf, inTurn}
 use Rattle.format.proofs.PlaceLaws.{atom-place, atom-small}
 use Rattle.soundness.proofs.NumberedLoop.{higher-le, turn-at-beyond, turn-at-on, turn-whole, turn-void}
-use Rattle.soundness.proofs.NumberedLaws.{turn-none}
+use Rattle.soundness.proofs.InTurnLaws.{turn-none}
 use Rattle.soundness.proofs.numbered.rows_in_order.Statement.{statement}
 use Rattle.soundness.proofs.numbered.rows_in_order.Tie as tie
 
