@@ -13,7 +13,7 @@ use Rattle.lists.specs.Lists.{isNil, all}
 use Rattle.lists.proofs.Bools.{and-parts, eqb-symm}
 use Rattle.lists.proofs.ListLaws.{all-parts}
 use Rattle.format.specs.Bytes.{Bytes, allowed}
-use Rattle.format.specs.Labels.{Bonds, Charges, Radicals, Centres, Pairs, Label, label, known, lookup, misplaced, Plain, Unparted, Labelled, hasCode, lineOf, titleLine}
+use Rattle.format.specs.Labels.{Bonds, Charges, Radicals, Centres, Pairs, Label, label, known, lookup, misplaced, Labelled, hasCode, lineOf, titleLine}
 use Rattle.format.specs.Reading.{Rules, State, if_stop_else_, noted, opened, over, valueTurn, furtherTurn, lineTurn, lineStep}
 use Rattle.format.proofs.ReadingLaws.{step-first, step-on, line-plain, line-unparted}
 use Rattle.labels.specs.ShownLines.{byCode, shownLine, ShowsLine}
@@ -31,7 +31,7 @@ use Rattle.judgement.specs.Lines.{rulesOf, labelTurn, begun}
 use Rattle.judgement.specs.declared.rules.Rules.{Rules as Given}
 use Rattle.judgement.proofs.SeenLaws.{known-told, Noted}
 use Rattle.judgement.proofs.LineTurnLaws.{stop-shown, listed-as, counted-as}
-use Rattle.judgement.proofs.StepTurnLaws.{part-length, part-drop}
+use Rattle.judgement.proofs.TextTurnLaws.{part-length, part-drop}
 
 -- ONLY END IS OVER
 pub over-code : (n : ℕ) → n < 14 → over (byCode n known .holds) ≡ eqb n 13

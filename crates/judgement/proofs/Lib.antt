@@ -2,6 +2,7 @@
 pub mod SeenLaws
 pub mod ValueLaws
 pub mod LineTurnLaws
+pub mod TextTurnLaws
 pub mod StepTurnLaws
 pub mod LabelTurnLaws
 pub mod BlockLaws

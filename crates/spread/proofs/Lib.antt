@@ -3,3 +3,4 @@ pub mod PlaceLaws
 pub mod MemberLaws
 pub mod SpreadLaws
 pub mod SpreadRowLaws
+pub mod SpreadLineLaws

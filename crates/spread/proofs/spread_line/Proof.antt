@@ -2,7 +2,7 @@
 use mathlib.Core.Path.{refl, sym, _∙_}
 use native.Mathlib.Omega.{arith}
 use Rattle.sorted.proofs.KeyedLaws.{line-within, refused-within, handed-within}
-use Rattle.spread.proofs.SpreadRowLaws.{values-torn, shows-blank, shows-refused, members-high, shows-row, some-field}
+use Rattle.spread.proofs.SpreadLineLaws.{values-torn, shows-blank, shows-refused, members-high, shows-row, some-field}
 use borrow.Author.Needs.{needs}
 use Rattle.spread.proofs.spread_line.Statement.{statement}
 use Rattle.spread.proofs.spread_line.Tie as tie

@@ -1,7 +1,7 @@
 -- `spread::spread_row` meets its contract. Assumes nothing.
 use mathlib.Core.Path.{sym, _∙_}
 use borrow.Author.Tests.{not-true, not-false}
-use Rattle.spread.proofs.SpreadRowLaws.{row-wrong, row-unnumbered, row-beyond, row-values}
+use Rattle.spread.proofs.SpreadLineLaws.{row-wrong, row-unnumbered, row-beyond, row-values}
 use borrow.Author.Needs.{needs}
 use Rattle.spread.proofs.spread_row.Statement.{statement}
 use Rattle.spread.proofs.spread_row.Tie as tie

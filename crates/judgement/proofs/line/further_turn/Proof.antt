@@ -1,6 +1,7 @@
 -- `judgement::line::further_turn` meets its contract. Assumes nothing.
 use mathlib.Core.Logic.{inl, inr}
-use Rattle.judgement.proofs.StepTurnLaws.{list-code, further-skipped, further-title, further-origin, further-owner, further-over, further-single, further-list}
+use Rattle.judgement.proofs.TextTurnLaws.{list-code}
+use Rattle.judgement.proofs.StepTurnLaws.{further-skipped, further-title, further-origin, further-owner, further-over, further-single, further-list}
 use borrow.Author.Needs.{needs}
 use Rattle.judgement.proofs.line.further_turn.Statement.{statement}
 use Rattle.judgement.proofs.line.further_turn.Tie as tie

@@ -1,6 +1,7 @@
 -- `judgement::line::value_turn` meets its contract. Assumes nothing.
 use mathlib.Core.Logic.{inl, inr, ⊎-elim}
-use Rattle.judgement.proofs.StepTurnLaws.{list-code, outside, value-skipped, value-prose, value-version, value-formula, value-id, value-end, value-list}
+use Rattle.judgement.proofs.TextTurnLaws.{list-code, outside}
+use Rattle.judgement.proofs.StepTurnLaws.{value-skipped, value-prose, value-version, value-formula, value-id, value-end, value-list}
 use borrow.Author.Needs.{needs}
 use Rattle.judgement.proofs.line.value_turn.Statement.{statement}
 use Rattle.judgement.proofs.line.value_turn.Tie as tie
