@@ -19,7 +19,7 @@ use Rattle.format.proofs.ReadingLaws.{Keeps, read-go, atoms-keeps, rows-keeps}
 use Rattle.labels.specs.ShownLines.{byCode}
 use Rattle.symbols.specs.ShownSymbols.{symOfMark}
 use Rattle.symbols.specs.declared.Mark.{Mark}
-use Rattle.rows.specs.Answers.{answered as asAnswer, ShowsAtomRow, ShowsBondRow}
+use Rattle.rows.specs.Answers.{asAnswer, ShowsAtomRow, ShowsBondRow}
 use Rattle.elements.specs.Shown.{isotopeShown}
 use Rattle.rows.specs.declared.atom.AtomRow.the-variants as A
 use Rattle.rows.specs.declared.bond.BondRow.the-variants as B

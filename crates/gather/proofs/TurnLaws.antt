@@ -24,7 +24,7 @@ use Rattle.sorted.specs.declared.after.LineAfter.the-variants as L
 use Rattle.sorted.proofs.FitLaws.{fits-kept, fits-more}
 use Rattle.gather.specs.Progress.{laid, withCount, Counted, CountedTurn, Listed, countOf}
 use Rattle.gather.specs.Shows.{Shows, ShowsTurn}
-use Rattle.gather.specs.ListLine.{listLine, turnOf, Gathers, Lent}
+use Rattle.gather.specs.ListLine.{listLine, turnOf, Gathers, ListLent}
 use Rattle.gather.specs.declared.progress.Progress.{Progress}
 use Rattle.gather.proofs.StepLaws.{withKept, withListed, row-line, atom-line}
 use Rattle.gather.proofs.LaidLaws.{sized, fromOf, sizeOf, shownAs, rowsPut, atomsPut, list-seated, atoms-seated}
@@ -91,7 +91,7 @@ Told size count limit place p part region r Shown =
 -- and so all that a line promises in the whole scratch
 abbrev pub Gathered : (code k place : ℕ) → List Bytes → Progress → (before after : List ℕ) → LineAfter → Type 0
 Gathered code k place fs p before after r =
-    (length after ≡ 2960) × Gathers code k place fs p before after (turnOf code p r) × ((Lent code p before → ⊥) → LineUntouched place before after r)
+    (length after ≡ 2960) × Gathers code k place fs p before after (turnOf code p r) × ((ListLent code p before → ⊥) → LineUntouched place before after r)
 
 counted-turn : (code limit : ℕ) (p : Progress) (r : LineAfter) → ((c : ℕ) → c ≤ limit → Counted (withCount code c p)) → LineWithin limit r → CountedTurn p (turnOf code p r)
 counted-turn code limit p (L.Kept c) keeps f = (keeps c (f c refl), refl)

@@ -51,7 +51,7 @@ ownRows code p = ofList code (p .atoms) (p .bonds) (p .charges) (p .radicals) (p
 abbrev pub ownMost : (code : ℕ) → ℕ
 ownMost code = ofList code 256 512 64 64 128 128
 
-pub record Lent (code : ℕ) (p : Progress) (t : List ℕ) : Type 0 where
+pub record ListLent (code : ℕ) (p : Progress) (t : List ℕ) : Type 0 where
   pub long : length t ≡ 2960
   pub atoms : p .atoms ≤ 256
   pub rows : ownRows code p ≤ ownMost code

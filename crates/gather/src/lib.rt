@@ -10,7 +10,7 @@ ghost use Rattle.format.specs.Bytes.{Bytes, fields};
 ghost use Rattle.format.specs.Reading.{State};
 ghost use Rattle.gather.specs.Progress.{Counted, CountedTurn};
 ghost use Rattle.gather.specs.Shows.{Shows, ShowsTurn};
-ghost use Rattle.gather.specs.ListLine.{listLine, Lent, TurnUntouched};
+ghost use Rattle.gather.specs.ListLine.{listLine, ListLent, TurnUntouched};
 ghost use Rattle.gather.specs.Runs.{RowsRan};
 use crate::progress::Progress;
 use crate::progress::Turn;
@@ -33,7 +33,7 @@ pub fn list_turn(
 ) -> Turn
     ensures { λ r. ⌜ (length (now (scratch .exit)) ≡ length (now (scratch .entry))) × (length (now (scratch .entry)) ≡ 2960 → Counted p → 1 ≤ last → 6 ≤ code → code ≤ 11 → CountedTurn p r × ((block : Bytes) (st : State) → Shows last block place p (now (scratch .entry)) st →
         ShowsTurn last block place r (now (scratch .exit)) (listLine code last st (fields (now (line .entry))))))
-        × ((Lent code p (now (scratch .entry)) → ⊥) → TurnUntouched place (now (scratch .entry)) (now (scratch .exit)) r) ⌝ }
+        × ((ListLent code p (now (scratch .entry)) → ⊥) → TurnUntouched place (now (scratch .entry)) (now (scratch .exit)) r) ⌝ }
 {
     if scratch.len() != Scratch::SIZE {
         return Turn::Stop(0, place);

@@ -6,7 +6,7 @@ ghost use lib.ListN.{length};
 ghost use Rattle.format.specs.Bytes.{fields};
 ghost use Rattle.gather.specs.Progress.{withCount};
 ghost use Rattle.sorted.specs.Shown.{LineUntouched};
-ghost use Rattle.gather.specs.ListLine.{turnOf, Gathers, Lent};
+ghost use Rattle.gather.specs.ListLine.{turnOf, Gathers, ListLent};
 use crate::progress::Progress;
 use atoms::atom_line;
 use sorted::after::LineAfter;
@@ -27,7 +27,7 @@ pub fn line_after(
 ) -> LineAfter
     requires { ⌜ length (now scratch) ≡ 2960 ⌝ }
     ensures { λ r. ⌜ (length (now (scratch .exit)) ≡ 2960) × Gathers code last place (fields (now (line .entry))) p (now (scratch .entry)) (now (scratch .exit)) (turnOf code p r)
-        × ((Lent code p (now (scratch .entry)) → ⊥) → LineUntouched place (now (scratch .entry)) (now (scratch .exit)) r) ⌝ }
+        × ((ListLent code p (now (scratch .entry)) → ⊥) → LineUntouched place (now (scratch .entry)) (now (scratch .exit)) r) ⌝ }
 {
     match code {
         6 => atom_line(line, place, last, p.atoms, &mut scratch[0..Scratch::KINDS]),

@@ -1,16 +1,14 @@
 -- The numbers of the C door from what is known of an answer: document 01, "The C host calls a check of one block". Assumes nothing.
-use Prim.Native.Nat.{ℕ, suc, _+_, _-_, _*_, _≤_, _<_}
+use Prim.Native.Nat.{ℕ, _+_, _-_, _*_, _≤_, _<_}
 use mathlib.Core.Path.{_≡_, refl, sym, ap, ap₂, _∙_}
-use mathlib.Core.Bool.{true, false}
 use mathlib.Core.List.{List, [], _∷_}
 use native.Mathlib.Omega.{arith}
 use lib.IntN.{ℤ}
 use lib.ListN.{length}
-use lib.Dec.{ltb}
 use borrow.Author.Tests.{lt-ltb, le-ltb}
 use Rattle.format.specs.Bytes.{Bytes, cut}
 use Rattle.format.specs.Reading.{spanFrom}
-use Rattle.format.specs.Table.{ReadResult, readResult}
+use Rattle.format.specs.Table.{ReadResult}
 use Rattle.format.specs.Writing.{WriteResult}
 use Rattle.format.specs.Walking.{titleOf, packed, packedResult}
 use Rattle.reader.specs.declared.Answer.{Answer}

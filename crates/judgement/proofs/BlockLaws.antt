@@ -37,11 +37,11 @@ use Rattle.gather.specs.declared.progress.Progress.{Progress}
 use Rattle.gather.specs.declared.progress.Turn.{Turn}
 use Rattle.gather.specs.declared.progress.Turn.the-variants.{Go, Stop}
 use Rattle.judgement.specs.Lines.{rulesOf, begun}
-use Rattle.judgement.specs.Judging.{Stands, ShowsJudged, Lent, Judges, unreadYet}
+use Rattle.judgement.specs.Judging.{Stands, ShowsJudged, ReadingLent, Judges, unreadYet}
 use Rattle.judgement.specs.declared.rules.Rules.{Rules as Given}
 use Rattle.judgement.specs.declared.Judged.{Judged}
 use Rattle.judgement.specs.declared.Judged.the-variants as J
-use Rattle.judgement.proofs.StepTurnLaws.{counted-bounded}
+use Rattle.judgement.proofs.TextTurnLaws.{counted-bounded}
 use Rattle.judgement.proofs.LabelTurnLaws.{over-code, nil-top}
 
 -- BEFORE THE FIRST LINE
@@ -235,8 +235,8 @@ module _ (u : Given) (block : Bytes) (at : ℕ) (p : Progress) (t : List ℕ) (g
 
 -- WHAT A READING LENDS, and what it does not
 module _ (u : Given) (block : Bytes) (t : List ℕ) where
-  pub judges-unlent : (Lent u t → ⊥) → Judges u block t t (J.Refused 0 0)
+  pub judges-unlent : (ReadingLent u t → ⊥) → Judges u block t t (J.Refused 0 0)
   judges-unlent n = record { long = refl; unlent = λ h. (refl, refl); shows = λ g z. absurd (n (record { long = ap length z ∙ filled-length 0 2960 [] (omega arith); ruled = g })) }
 
-  pub judges-lines : Lent u t → (s : List ℕ) (r : Judged) → (length s ≡ 2960) × (t ≡ filled 0 2960 [] → ShowsJudged u block s r) → Judges u block t s r
+  pub judges-lines : ReadingLent u t → (s : List ℕ) (r : Judged) → (length s ≡ 2960) × (t ≡ filled 0 2960 [] → ShowsJudged u block s r) → Judges u block t s r
   judges-lines l s r h = record { long = h .0 ∙ sym (l .long); unlent = λ n. absurd (n l); shows = λ g z. h .1 z }

@@ -25,7 +25,7 @@ ShowsJudged u block t (J.Accepted p) = Stands u block p t
 ShowsJudged u block t (J.Refused n place) = readLines (rulesOf u) start (cut block) ≡ Refused n place
 
 -- what a reading lends: a scratch of the length, and as many elements known as may be
-pub record Lent (u : Given) (t : List ℕ) : Type 0 where
+pub record ReadingLent (u : Given) (t : List ℕ) : Type 0 where
   pub long : length t ≡ 2960
   pub ruled : Ruled u
 
@@ -33,7 +33,7 @@ pub record Lent (u : Given) (t : List ℕ) : Type 0 where
 -- reading of the block's lines. Of a scratch of the length that holds other numbers: the length alone.
 pub record Judges (u : Given) (block : Bytes) (before after : List ℕ) (r : Judged) : Type 0 where
   pub long : length after ≡ length before
-  pub unlent : (Lent u before → ⊥) → (r ≡ J.Refused 0 0) × (after ≡ before)
+  pub unlent : (ReadingLent u before → ⊥) → (r ≡ J.Refused 0 0) × (after ≡ before)
   pub shows : Ruled u → before ≡ filled 0 2960 [] → ShowsJudged u block after r
 
 -- what is known before the first line

@@ -14,7 +14,7 @@ use Rattle.lists.proofs.ListLaws.{all-nil, all-one, all-append, any-nil, any-on
 use Rattle.format.specs.Bytes.{within}
 use Rattle.format.specs.Formula.{Counted, join}
 use Rattle.format.specs.Structure.{Isotope, isotope, unknown, massOk}
-use Rattle.format.specs.Reading.{State, Turn, Go, Stop, if_stop_else_, withFormula, formulaTurn}
+use Rattle.format.specs.Reading.{State, Turn, Go, if_stop_else_, withFormula, formulaTurn}
 use Rattle.format.proofs.ByteLaws.{within-is, within-low, within-high}
 use Rattle.molform.specs.Verdicts.{verdictOf, entriesVerdict, formulaVerdict, lowest, refusalWith, turnOf}
 use Rattle.molform.specs.Totals.{formulaEntries}

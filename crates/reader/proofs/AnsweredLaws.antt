@@ -21,7 +21,7 @@ use Rattle.judgement.specs.Judging.{Stands, ShowsJudged, Judges}
 use Rattle.judgement.specs.declared.rules.Rules.{Rules as Given}
 use Rattle.judgement.specs.declared.Judged.{Judged}
 use Rattle.judgement.specs.declared.Judged.the-variants as J
-use Rattle.reader.specs.Answers.{shownRead, Told}
+use Rattle.reader.specs.Answers.{shownRead, CaseTold}
 use Rattle.reader.specs.declared.Answer.{Answer}
 use Rattle.reader.specs.declared.Answer.the-variants as A
 use Rattle.reader.proofs.ToldLaws.{refused-told}
@@ -55,7 +55,7 @@ block-lines u b h = rw (le-ltb 32768 (length b) h, readBlock)
 -- READING
 -- what `read` promises of an answer and the table after it
 abbrev pub Reads : Bytes → (before after : List ℤ) → Answer → Type 0
-Reads b t t′ r = (shownRead r t′ ≡ readResult 103 b t) × Told r
+Reads b t t′ r = (shownRead r t′ ≡ readResult 103 b t) × CaseTold r
 
 pub read-short : (b : Bytes) (t : List ℤ) → length t < 3856 → Reads b t t (A.Refused 1 0)
 read-short b t h = (sym (short-untouched 103 b t h), λ e. omega arith)

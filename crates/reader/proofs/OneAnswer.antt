@@ -8,7 +8,7 @@ use lib.IntN.{ℤ}
 use Rattle.format.specs.Bytes.{Bytes}
 use Rattle.format.specs.Table.{ReadResult}
 use Rattle.format.specs.Walking.{packed, checkOf}
-use Rattle.reader.specs.Answers.{shownRead, Told}
+use Rattle.reader.specs.Answers.{shownRead, CaseTold}
 use Rattle.reader.specs.declared.Answer.{Answer}
 use Rattle.reader.specs.declared.Answer.the-variants.{Accepted, Refused}
 
@@ -17,7 +17,7 @@ abbrev answerOf : (number place : ℕ) → Answer
 answerOf zero place = Accepted
 answerOf (suc n) place = Refused (suc n) place
 
-back : (r : Answer) (t : List ℤ) → Told r → answerOf (shownRead r t .number) (shownRead r t .place) ≡ r
+back : (r : Answer) (t : List ℤ) → CaseTold r → answerOf (shownRead r t .number) (shownRead r t .place) ≡ r
 back Accepted t h = refl
 back (Refused zero place) t h = absurd (h refl)
 back (Refused (suc n) place) t h = refl
@@ -26,7 +26,7 @@ held : (r : Answer) (t : List ℤ) → shownRead r t .table ≡ t
 held Accepted t = refl
 held (Refused n place) t = refl
 
-pub one-answer : (r q : Answer) (t u : List ℤ) → Told r → Told q → shownRead r t ≡ shownRead q u → (r ≡ q) × (t ≡ u)
+pub one-answer : (r q : Answer) (t u : List ℤ) → CaseTold r → CaseTold q → shownRead r t ≡ shownRead q u → (r ≡ q) × (t ≡ u)
 one-answer r q t u h k e = (
   sym (back r t h) ∙ ap (λ (x : ReadResult). answerOf (x .number) (x .place)) e ∙ back q u k,
   sym (held r t) ∙ ap (λ (x : ReadResult). x .table) e ∙ held q u,

@@ -10,7 +10,7 @@ use lib.ListN.{length}
 use Rattle.lists.specs.Lists.{isNil, all}
 use Rattle.format.specs.Bytes.{Bytes, allowed}
 use Rattle.format.specs.Labels.{Line, Plain, Unparted, Labelled, lineOf, titleLine, misplaced}
-use Rattle.format.specs.Reading.{Rules, State, Turn, Stop, if_stop_else_, over, opened, valueTurn, lineTurn, lineStep, Refused, ending, readLines}
+use Rattle.format.specs.Reading.{Rules, State, Turn, Stop, if_stop_else_, over, opened, lineTurn, lineStep, Refused, ending, readLines}
 use Rattle.format.proofs.ReadingLaws.{stop-keeps, value-keeps, further-keeps, StoppedAt, Unended, stopped}
 
 abbrev Telling : Turn → Type 0

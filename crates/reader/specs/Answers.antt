@@ -12,6 +12,6 @@ shownRead A.Accepted t = readAnswer 0 0 t
 shownRead (A.Refused n place) t = readAnswer n place t
 
 -- a refusal's number is not 0, which says "accepted": the three parts of an answer shown tell whether it is a refusal
-abbrev pub Told : Answer → Type 0
-Told A.Accepted = Unit {0}
-Told (A.Refused n place) = n ≡ 0 → ⊥
+abbrev pub CaseTold : Answer → Type 0
+CaseTold A.Accepted = Unit {0}
+CaseTold (A.Refused n place) = n ≡ 0 → ⊥

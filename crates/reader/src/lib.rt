@@ -5,7 +5,7 @@ ghost use Prim.Native.Nat.{_≤_};
 ghost use lib.ListN.{length, drop};
 ghost use Rattle.format.specs.Table.{zeros, readResult};
 ghost use Rattle.format.specs.Walking.{packed, checkOf};
-ghost use Rattle.reader.specs.Answers.{shownRead, Told};
+ghost use Rattle.reader.specs.Answers.{shownRead, CaseTold};
 ghost use Rattle.reader.specs.declared.Answer.the-variants.{Refused};
 use format::Table;
 use judgement::Judged;
@@ -30,7 +30,7 @@ fn refuse(number: u32, place: usize, table: &mut [i32]) -> Answer
 // untouched".
 pub fn read(block: &[u8], table: &mut [i32]) -> Answer
     ensures result { λ r. ⌜ shownRead r (now (table .exit)) ≡ readResult 103 (now (block .entry)) (now (table .entry)) ⌝ }
-    ensures told { λ r. ⌜ Told r ⌝ }
+    ensures told { λ r. ⌜ CaseTold r ⌝ }
 {
     if table.len() < Table::SIZE {
         return Answer::Refused(1, 0);

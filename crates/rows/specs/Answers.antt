@@ -23,9 +23,9 @@ pub data RowAnswer (Values : Type 0) : Type 0 where
   refused : ℕ → RowAnswer Values
 
 -- what a line's fields ask for, by the shape that they have: "9 row of the wrong shape"
-abbrev pub answered : {Values : Type 0} → Option Values → RowAnswer Values
-answered none = refused 9
-answered (some r) = values r
+abbrev pub asAnswer : {Values : Type 0} → Option Values → RowAnswer Values
+asAnswer none = refused 9
+asAnswer (some r) = values r
 
 -- NUMBER AND VALUES of each case
 abbrev pub atomRowOf : (number : ℕ) → Mark → (hydrogens : ℕ) → AtomRow
@@ -66,17 +66,17 @@ PairSmall (P.Refused n) = Unit {0}
 
 -- WHAT A READER PROMISES of its answer r to what is asked
 pub record ShowsAtomRow (asked : Option AtomRow) (r : AtomAnswer) : Type 0 where
-  pub is : atomShown r ≡ answered asked
+  pub is : atomShown r ≡ asAnswer asked
   pub small : AtomSmall r
 
 pub record ShowsBondRow (asked : Option Row) (r : BondRow) : Type 0 where
-  pub is : bondShown r ≡ answered asked
+  pub is : bondShown r ≡ asAnswer asked
   pub small : BondSmall r
 
 pub record ShowsCentreRow (asked : Option Row) (r : CentreRow) : Type 0 where
-  pub is : centreShown r ≡ answered asked
+  pub is : centreShown r ≡ asAnswer asked
   pub small : CentreSmall r
 
 pub record ShowsPairRow (asked : Option Row) (r : PairRow) : Type 0 where
-  pub is : pairShown r ≡ answered asked
+  pub is : pairShown r ≡ asAnswer asked
   pub small : PairSmall r

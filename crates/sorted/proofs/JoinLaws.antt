@@ -21,10 +21,11 @@ use Rattle.format.specs.Structure.{most, meets, repeats, clash, rowBefore, rowO
 use Rattle.format.proofs.OrderLaws.{clash-is}
 use Rattle.sorted.specs.Steps.{kept, refused, joinAfter}
 use Rattle.sorted.specs.Regions.{keyOf, payloadOf, keyedRegion, Fits}
-use Rattle.sorted.specs.Keyed.{keyed, drops, keyAt, KeysAscend, Between, withRow, JoinShows, KeptWithin, StopLeaves}
+use Rattle.sorted.specs.Keyed.{keyed, drops, keyAt, KeysAscend, Between, behind, withRow, JoinShows, KeptWithin, StopLeaves}
 use Rattle.sorted.specs.declared.after.RowAfter.{RowAfter}
 use Rattle.sorted.specs.declared.after.RowAfter.the-variants.{Kept, Stop}
 use Rattle.lists.proofs.IndexLaws.{any-index, any-nowhere, span-index}
+use Rattle.sorted.proofs.SearchLaws.{behind-all}
 use Rattle.sorted.proofs.KeyLaws.{repeats-payload, repeats-never}
 use Rattle.sorted.proofs.RegionRows.{noRow, sortedAt, fine-at, payload-at, keys-ascend, meets-at, before-at, region-more}
 
@@ -196,3 +197,9 @@ module _ (limit key payload : ℕ) (dropping : Bool) (count : ℕ) (t : List ℕ
         let s : span (λ y. not (rowBefore r y)) (sort rowBefore rs) ≡ p = absent-place l kd n (omega arith) rs fi r ok p (between-there l n rs r kd h ko len fi e) (none-there l n rs r kd h ko len fi e) (omega (arith, len)) in
         rw (join-new l rs r (clash-meets l rs r a) a (omega (arith, m, len, f)))
         (ap Kept (ap (λ (c : ℕ). c + 1) (sym len) ∙ add-one (length rs)), g ∙ rw (← ko, ← po, ← len, e) (region-more l rs r p (omega (arith, len)) (omega (arith, m, len, f)) s))
+
+-- a row behind all others
+module _ (limit key payload : ℕ) (dropping : Bool) (count : ℕ) (t : List ℕ) where
+  pub shows-last : (u : List ℕ) → behind t count key ≡ true → count < limit → u ≡ withRow t count count key payload → JoinShows limit key payload dropping count t u (Kept (count + 1))
+  shows-last u b =
+      shows-new limit key payload dropping count t count (omega arith) (λ up. behind-all t count key up b) (and-left-false (ltb count count) (eqb (keyAt t count) key) (le-ltb count count (omega arith))) u

@@ -7,12 +7,12 @@ use mathlib.Core.Option.{none, some}
 use mathlib.Core.List.{List, [], _∷_}
 use native.Mathlib.Omega.{arith}
 use lib.Dec.{eqb, ltb, leb}
-use borrow.Author.Tests.{eqb-true, leb-true, le-leb, lt-leb, eq-eqb, ne-eqb, lt-ltb, le-ltb}
+use borrow.Author.Tests.{eqb-true, leb-true, ltb-true, le-leb, lt-leb, eq-eqb, ne-eqb, lt-ltb, le-ltb}
 use mir.Syntax.{w32}
 use mir.Val.{Fits as FitsIn}
 use Rattle.lists.specs.Lists.{isNil, all, any, pairs}
 use Rattle.lists.specs.Order.{insert, sort}
-use Rattle.lists.proofs.Bools.{torn, and-parts, and-left-false}
+use Rattle.lists.proofs.Bools.{torn, and-parts, and-both, and-left-false, and-right-false}
 use Rattle.lists.proofs.ListLaws.{nil-is, all-nil, all-both, all-out, all-in}
 use Rattle.lists.proofs.SortLaws.{insert-here, insert-past}
 use Rattle.format.specs.Bytes.{Bytes, within, fields}
@@ -22,12 +22,12 @@ use Rattle.format.specs.Structure.{most, ranged}
 use Rattle.format.specs.Reading.{ordered}
 use Rattle.fields.specs.NextFields.{NextField}
 use Rattle.fields.specs.declared.Field.{Field}
-use Rattle.rows.specs.Answers.{values, refused as rowRefused, answered}
+use Rattle.rows.specs.Answers.{values, refused as rowRefused, asAnswer}
 use Rattle.rows.proofs.AnswerLaws.{values-some, refused-none}
 use Rattle.sorted.specs.Steps.{After, kept, refused, joinAfter, rowAfter, rowStep}
 use Rattle.sorted.specs.Regions.{payloadOf, keyedRegion}
 use Rattle.sorted.specs.Shown.{ShowsAfter, ShowsLine, LineWithin}
-use Rattle.sorted.specs.Keyed.{keyed, drops, JoinShows, KeptWithin, RowShows, onLine, LineShows}
+use Rattle.sorted.specs.Keyed.{keyed, drops, inOrder, JoinShows, KeptWithin, RowShows, onLine, LineShows}
 use Rattle.sorted.specs.declared.after.RowAfter.{RowAfter}
 use Rattle.sorted.specs.declared.after.RowAfter.the-variants.{Kept, Stop}
 use Rattle.sorted.specs.declared.after.LineAfter.{LineAfter}
@@ -159,13 +159,13 @@ module _ (l : ListOf) (n count : ℕ) (line : List ℕ) (place : ℕ) (t : List 
   shows-blank e rs len fi tt = rw (ap (rowStep l n rs) (nil-is (fields line) e) ∙ step-nil l n rs) (ap L.Kept (sym len), tt)
 
   module _ (x : isNil (fields line) ≡ false) (u : List ℕ) where
-    pub shows-refused : (number : ℕ) → rowRefused number ≡ answered (rowShape l (fields line)) → LineShows l n count line place t u (L.Refused number place)
+    pub shows-refused : (number : ℕ) → rowRefused number ≡ asAnswer (rowShape l (fields line)) → LineShows l n count line place t u (L.Refused number place)
     shows-refused number e rs len fi tt =
         let q = refused-none (rowShape l (fields line)) number e in
         rw (step-some l n rs (fields line) x ∙ ap (rowAfter l n rs) (q .1) ∙ row-none l n rs) (ap (λ (k : ℕ). L.Refused k place) (q .0))
 
     pub shows-row : (limit payload : ℕ) (ns : List ℕ) (dropping : Bool) (a : RowAfter) (y : LineAfter) (r : Row) → keyed l ≡ true → most l ≡ limit → drops l ≡ dropping
-        → values r ≡ answered (rowShape l (fields line)) → r .atoms ≡ ns → payloadOf r ≡ payload → y ≡ onLine place a → RowShows limit ns payload dropping n count t u a → LineShows l n count line place t u y
+        → values r ≡ asAnswer (rowShape l (fields line)) → r .atoms ≡ ns → payloadOf r ≡ payload → y ≡ onLine place a → RowShows limit ns payload dropping n count t u a → LineShows l n count line place t u y
     shows-row limit payload ns dropping a y r k m d e ns≡ po o j rs len fi tt =
         let q : rowShape l (fields line) ≡ some r = values-some (rowShape l (fields line)) r e in
         rw (step-some l n rs (fields line) x ∙ ap (rowAfter l n rs) q) (handed-shows place a y o (keyedRegion l) u (rowAfter l n rs (some r)) (j l (fields line) rs r k m d q ns≡ po len fi tt))
@@ -195,3 +195,33 @@ module _ (n a : ℕ) where
 
   pub two-fits : (b : ℕ) → n ≤ 256 → within 1 n a ≡ true → within 1 n b ≡ true → FitsIn w32 (1024 * a + b)
   two-fits b h e f = record { fits = omega (arith, listed-below n a e, listed-below n b f) }
+
+-- TWO ATOMS IN ORDER
+module _ (n a b : ℕ) where
+  pub order-unlisted : a < 1 → false ≡ inOrder n a b
+  order-unlisted h = sym (and-left-false (within 1 n a) _ (sym (zero-unlisted n a h)))
+
+  pub order-wrong : b ≤ a → false ≡ inOrder n a b
+  order-wrong h = sym (and-right-false (within 1 n a) _ (and-right-false (within 1 n b) (ltb a b) (le-ltb a b h)))
+
+  pub order-is : 1 ≤ a → a < b → leb b n ≡ inOrder n a b
+  order-is p h = go (leb b n) refl
+    where
+      go : (t : Bool) → leb b n ≡ t → leb b n ≡ inOrder n a b
+      go true e = e ∙ sym (and-both (within 1 n a) _ (sym (listed-is n a p) ∙ le-leb a n (omega (arith, leb-true b n e))) (and-both (within 1 n b) (ltb a b) (sym (listed-is n b (omega arith)) ∙ e) (lt-ltb a b h)))
+      go false e = e ∙ sym (and-right-false (within 1 n a) _ (and-left-false (within 1 n b) (ltb a b) (sym (listed-is n b (omega arith)) ∙ e)))
+
+  module _ (e : inOrder n a b ≡ true) where
+    pub order-first : within 1 n a ≡ true
+    order-first = and-parts (within 1 n a) _ e .0
+
+    pub order-second : within 1 n b ≡ true
+    order-second = and-parts (within 1 n b) (ltb a b) (and-parts (within 1 n a) _ e .1) .0
+
+    pub order-below : a < b
+    order-below = ltb-true a b (and-parts (within 1 n b) (ltb a b) (and-parts (within 1 n a) _ e .1) .1)
+
+  pub shows-ordered : (limit payload : ℕ) (dropping : Bool) (count : ℕ) (t u : List ℕ) (r : RowAfter) → n ≤ 256 → inOrder n a b ≡ true → JoinShows limit (1024 * a + b) payload dropping count t u r
+      → RowShows limit (a ∷ b ∷ []) payload dropping n count t u r
+  shows-ordered limit payload dropping count t u r h e j =
+      shows-joined limit (a ∷ b ∷ []) payload dropping n count t u (1024 * a + b) r h (both-listed n a b (order-first e) (order-second e)) (pair-apart a b (λ q. omega (arith, q, order-below e))) (lower-first a b (order-below e)) j

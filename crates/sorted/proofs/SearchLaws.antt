@@ -2,15 +2,19 @@
 -- pairs ascend by their atoms." Assumes nothing.
 use Prim.Native.Nat.{ℕ, _+_, _-_, _≤_, _<_}
 use mathlib.Core.Path.{_≡_, sym}
+use mathlib.Core.Bool.{true}
 use mathlib.Core.List.{List}
 use native.Mathlib.Omega.{arith}
+use lib.Dec.{eqb, ltb}
+use borrow.Author.Tests.{ltb-true, ne-eqb}
+use Rattle.lists.proofs.Bools.{or-other}
 use Rattle.lists.proofs.LexLaws.{Sides, less, equal, greater, sides}
-use Rattle.sorted.specs.Keyed.{keyAt, KeysAscend, Between}
+use Rattle.sorted.specs.Keyed.{keyAt, KeysAscend, Between, behind}
 
 module _ (t : List ℕ) (count key : ℕ) where
-  -- no rows
-  pub no-rows : count ≡ 0 → Between t count key 0 0
-  no-rows e = record { lower = λ i h. absurd (omega arith); others = λ i h k. absurd (omega arith) }
+  -- the search starts with all rows
+  pub search-starts : Between t count key 0 count
+  search-starts = record { lower = λ i h. absurd (omega arith); others = λ i h k. absurd (omega arith) }
 
   module _ (up : KeysAscend count t) where
     -- keys up to one that is lower, keys from one on that is not
@@ -30,11 +34,12 @@ module _ (t : List ℕ) (count key : ℕ) where
         go (equal a) = rw (sym a) h
         go (greater a) = absurd (omega arith)
 
-    pub behind-last : 0 < count → keyAt t (count - 1) < key → Between t count key count count
-    behind-last p h = record { lower = λ i k. all-lower (count - 1) (omega arith) h i (omega arith); others = λ i j k. absurd (omega arith) }
-
-    pub before-last : key ≤ keyAt t (count - 1) → Between t count key 0 (count - 1)
-    before-last h = record { lower = λ i k. absurd (omega arith); others = λ i j k. all-others (count - 1) h i j k }
+    -- a key behind all others
+    pub behind-all : behind t count key ≡ true → Between t count key count count
+    behind-all b = record {
+      lower = λ i h. all-lower (count - 1) (omega arith) (ltb-true (keyAt t (count - 1)) key (or-other (eqb count 0) (ltb (keyAt t (count - 1)) key) b (ne-eqb count 0 (λ e. omega arith)))) i (omega arith);
+      others = λ i h k. absurd (omega arith);
+    }
 
     pub search-up : (low high m : ℕ) → m < count → keyAt t m < key → Between t count key low high → Between t count key (m + 1) high
     search-up low high m k h b = record { lower = λ i j. all-lower m k h i j; others = b .others }

@@ -2,11 +2,12 @@
 -- region after it show: document 01, "Rows", BONDLIST, STEREOCENTER, STEREOPAIR. Assumes nothing.
 use Prim.Native.Nat.{ℕ, _+_, _-_, _*_, _≤_, _<_}
 use mathlib.Core.Path.{_≡_}
-use mathlib.Core.Bool.{Bool, true, false}
+use mathlib.Core.Bool.{Bool, true, false, _&&_, _||_}
 use mathlib.Core.Option.{some}
 use mathlib.Core.List.{List, _∷_, _++_}
 use lib.ListN.{length, getD, take, drop}
-use Rattle.format.specs.Bytes.{Bytes, fields}
+use lib.Dec.{eqb, ltb}
+use Rattle.format.specs.Bytes.{Bytes, fields, within}
 use Rattle.format.specs.Labels.{ListOf, Bonds, Charges, Radicals, Centres, Pairs}
 use Rattle.format.specs.Rows.{Row, rowShape}
 use Rattle.format.specs.Structure.{most, rowOk}
@@ -36,6 +37,10 @@ pub record Between (t : List ℕ) (count key low high : ℕ) : Type 0 where
   pub lower : (i : ℕ) → i < low → keyAt t i < key
   pub others : (i : ℕ) → high ≤ i → i < count → key ≤ keyAt t i
 
+-- whether a key is above the last of so many rows
+abbrev pub behind : List ℕ → (count key : ℕ) → Bool
+behind t count key = eqb count 0 || ltb (keyAt t (count - 1)) key
+
 -- t with its cells from `from` to `to` moved up by w
 unfoldable pub opened : List ℕ → (from to w : ℕ) → List ℕ
 opened t from to w = take (from + w) t ++ (take (to - from) (drop from t) ++ drop (to + w) t)
@@ -57,6 +62,10 @@ KeptWithin limit a = (c : ℕ) → a ≡ Kept c → c ≤ limit
 -- a refusal leaves the region as it is
 abbrev pub StopLeaves : (before after : List ℕ) → RowAfter → Type 0
 StopLeaves before after a = (n : ℕ) → a ≡ Stop n → after ≡ before
+
+-- whether both atoms are listed, the lower one first
+abbrev pub inOrder : (n first second : ℕ) → Bool
+inOrder n first second = within 1 n first && (within 1 n second && ltb first second)
 
 -- of a row whose values are in hand: of every list by key with that limit, and every row of it with those atoms and that payload that a line can say
 abbrev pub RowShows : (most : ℕ) (ns : List ℕ) (payload : ℕ) (dropping : Bool) (n count : ℕ) (before after : List ℕ) → RowAfter → Type 0

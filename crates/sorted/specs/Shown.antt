@@ -3,9 +3,6 @@ use Prim.Native.Nat.{ℕ, _≤_}
 use mathlib.Core.Path.{_≡_}
 use mathlib.Core.List.{List}
 use lib.ListN.{length}
-use Rattle.format.specs.Labels.{ListOf}
-use Rattle.format.specs.Rows.{Row}
-use Rattle.format.specs.Structure.{most}
 use Rattle.sorted.specs.Steps.{After, kept, refused}
 use Rattle.sorted.specs.declared.after.RowAfter.{RowAfter}
 use Rattle.sorted.specs.declared.after.RowAfter.the-variants.{Kept, Stop}

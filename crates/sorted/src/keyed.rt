@@ -10,7 +10,7 @@ ghost use Rattle.lists.specs.Lists.{isNil};
 ghost use Rattle.format.specs.Bytes.{within, fields};
 ghost use Rattle.format.specs.Labels.{Bonds, Centres, Pairs};
 ghost use Rattle.sorted.specs.Shown.{LineWithin, LineUntouched};
-ghost use Rattle.sorted.specs.Keyed.{KeptWithin, StopLeaves, RowShows, LineShows};
+ghost use Rattle.sorted.specs.Keyed.{inOrder, KeptWithin, StopLeaves, RowShows, LineShows};
 use crate::after::LineAfter;
 use crate::after::RowAfter;
 use crate::after::on_line;
@@ -89,6 +89,19 @@ fn two_atoms(
     join(region, count, most, key, payload, drops)
 }
 
+// Whether both atoms are listed, the lower one first, as programs write them.
+fn is_ordered(first: u32, second: u32, atoms: usize) -> bool
+    ensures { λ r. ⌜ r ≡ inOrder atoms first second ⌝ }
+{
+    if first < 1 {
+        return false;
+    }
+    if second <= first {
+        return false;
+    }
+    second as usize <= atoms
+}
+
 // What a bond whose values are in hand leaves of its list, `count` bonds there and `atoms` atoms listed; a refusal leaves the region as it is.
 pub fn bond_joined(
     first: u32,
@@ -114,6 +127,10 @@ pub fn bond_joined(
         return RowAfter::Stop(0);
     }
     let payload = Scratch::PAYLOAD * kind;
+    if is_ordered(first, second, atoms) {
+        let key = Scratch::KEY * first + second;
+        return join(region, count, Table::BONDS, key, payload, true);
+    }
     two_atoms(
         atoms,
         count,

@@ -5,14 +5,14 @@ use mathlib.Core.Path.{_≡_, refl, sym, ap, _∙_}
 use mathlib.Core.Bool.{Bool, true, false, _&&_, _||_, not}
 use mathlib.Core.List.{List, [], _∷_}
 use native.Mathlib.Omega.{arith}
-use lib.ListN.{getD, take}
+use lib.ListN.{take}
 use lib.Dec.{eqb}
 use borrow.Author.Tests.{eqb-true, eqb-false, ne-eqb, not-true, not-false}
 use Rattle.lists.specs.Lists.{all, any, sameBy}
 use Rattle.lists.proofs.Bools.{torn, not-of-false, and-parts, and-both, and-left-false, and-right-false}
 use Rattle.lists.proofs.ListLaws.{any-parts}
 use Rattle.format.specs.Bytes.{Bytes, bytes, within, isIn, headIs, same, hash, isLabel, lineLen}
-use Rattle.format.specs.Labels.{Skipped, Label, label, known, lookup, Parts, NoEquals, Parted, parts, partsLine, raise, normal, lineOf, titleLine, endLine}
+use Rattle.format.specs.Labels.{Skipped, Label, label, known, lookup, Parts, NoEquals, Parted, parts, raise, normal, lineOf, titleLine, endLine}
 use Rattle.format.specs.Rows.{upper, lower}
 use Rattle.format.proofs.ByteLaws.{within-true, normal-keep, raise-lower, raise-other}
 use Rattle.format.proofs.CutLaws.{len-hit, len-miss}

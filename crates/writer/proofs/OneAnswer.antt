@@ -3,14 +3,14 @@
 use Prim.Native.Nat.{ℕ, zero, suc, _+_, _<_}
 use mathlib.Core.Path.{_≡_, refl, sym, ap, _∙_, subst}
 use mathlib.Core.Bool.{Bool, true, false}
-use mathlib.Core.List.{List, [], _++_}
+use mathlib.Core.List.{List, _++_}
 use native.Mathlib.Omega.{arith}
 use lib.Dec.{ltb}
-use lib.ListN.{length, getD, length-append}
+use lib.ListN.{length, length-append}
 use lib.IntN.{ℤ}
 use Rattle.lists.specs.Lists.{concat}
 use Rattle.format.specs.Bytes.{Bytes, bytes}
-use Rattle.format.specs.Table.{decode, sound}
+use Rattle.format.specs.Table.{sound}
 use Rattle.format.specs.Writing.{WriteResult, valued, printRecord, records, canonical, formOf, writtenAs, writeResult}
 use Rattle.writer.specs.Answers.{shown}
 use Rattle.writer.specs.declared.Answer.{Answer}

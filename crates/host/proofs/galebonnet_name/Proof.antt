@@ -1,5 +1,4 @@
 -- The title's part packed: each return is one case of it. Assumes nothing.
-use native.Mathlib.Omega.{arith}
 use borrow.Author.Needs.{needs}
 use Rattle.host.proofs.PackLaws.{title-long, title-none, title-packed}
 use Rattle.host.proofs.galebonnet_name.Statement.{statement}

@@ -2,7 +2,7 @@
 use Prim.Native.Nat.{ℕ}
 use mathlib.Core.List.{List}
 use Rattle.rows.specs.Parts.{TwoAre}
-use Rattle.rows.specs.Answers.{answered}
+use Rattle.rows.specs.Answers.{asAnswer}
 use lib.ListN.{drop}
 use Rattle.format.specs.Bytes.{fields}
 use mathlib.Core.Path.{sym, ap, _∙_}
@@ -33,7 +33,7 @@ enum-told c = search needs
 
 returns : tie.Need-returns
 unfolding rowShape
-returns c = let line = c .before .before .before .before .args .line .now in record { is = ap answered (no-atoms 2 1 "SDTQA" nothingMore line (two-none line _ (c .before .before .two-atoms .ensures) (c .enum-told .given .1))); small = tt }
+returns c = let line = c .before .before .before .before .args .line .now in record { is = ap asAnswer (no-atoms 2 1 "SDTQA" nothingMore line (two-none line _ (c .before .before .two-atoms .ensures) (c .enum-told .given .1))); small = tt }
 
 next-field-requires : tie.Need-next-field-requires
 next-field-requires c κs = search needs
@@ -58,18 +58,18 @@ enum-told-2 c = search needs
 
 returns-2 : tie.Need-returns-2
 unfolding rowShape
-returns-2 c = let q = c .before .before .before .before in record { is = ap answered (no-letter 2 1 "SDTQA" nothingMore (line-of q) _ (front q .are) _ (front q .behind) _ (q .next-field .ensures) 6 _ (c .before .before .bond-kind .ensures) (c .enum-told2 .given .1)); small = tt }
+returns-2 c = let q = c .before .before .before .before in record { is = ap asAnswer (no-letter 2 1 "SDTQA" nothingMore (line-of q) _ (front q .are) _ (front q .behind) _ (q .next-field .ensures) 6 _ (c .before .before .bond-kind .ensures) (c .enum-told2 .given .1)); small = tt }
 
 at-end-requires : tie.Need-at-end-requires
 at-end-requires c κs = search needs
 
 returns-3 : tie.Need-returns-3
 unfolding rowShape
-returns-3 c = let m = c .before .before in let q = m .before .before .before .before .before in record { is = ap answered (no-last 2 1 "SDTQA" nothingMore (line-of q) _ (front q .are) _ (front q .behind) _ (q .next-field .ensures) 6 _ (m .before .before .before .bond-kind .ensures) _ (m .before .kind .given .1) (end-none (fields (drop (q .next-field .result .to) (line-of q))) (sym (c .before .at-end .ensures) ∙ not-true _ (c .if1 .taken)))); small = tt }
+returns-3 c = let m = c .before .before in let q = m .before .before .before .before .before in record { is = ap asAnswer (no-last 2 1 "SDTQA" nothingMore (line-of q) _ (front q .are) _ (front q .behind) _ (q .next-field .ensures) 6 _ (m .before .before .before .bond-kind .ensures) _ (m .before .kind .given .1) (end-none (fields (drop (q .next-field .result .to) (line-of q))) (sym (c .before .at-end .ensures) ∙ not-true _ (c .if1 .taken)))); small = tt }
 
 returns-4 : tie.Need-returns-4
 unfolding rowShape
-returns-4 c = let m = c .before .before in let q = m .before .before .before .before .before in let s = m .before .before .before .bond-kind .ensures in record { is = ap answered (row-is 2 1 "SDTQA" nothingMore (line-of q) _ (front q .are) _ (front q .behind) _ (q .next-field .ensures) 6 _ s _ (m .before .kind .given .1) 0 (end-some (fields (drop (q .next-field .result .to) (line-of q))) (sym (c .before .at-end .ensures) ∙ not-false _ (c .if1 .left)))); small = (front q .one, front q .other, s .small _ (m .before .kind .given .1)) }
+returns-4 c = let m = c .before .before in let q = m .before .before .before .before .before in let s = m .before .before .before .bond-kind .ensures in record { is = ap asAnswer (row-is 2 1 "SDTQA" nothingMore (line-of q) _ (front q .are) _ (front q .behind) _ (q .next-field .ensures) 6 _ s _ (m .before .kind .given .1) 0 (end-some (fields (drop (q .next-field .result .to) (line-of q))) (sym (c .before .at-end .ensures) ∙ not-false _ (c .if1 .left)))); small = (front q .one, front q .other, s .small _ (m .before .kind .given .1)) }
 
 pub bond-row-spec : {M : Type 1} → statement M
 bond-row-spec =

@@ -3,7 +3,7 @@ use Prim.Native.Nat.{ℕ}
 use mathlib.Core.List.{List}
 use mathlib.Core.Path.{ap}
 use Rattle.rows.specs.Parts.{AtomIs}
-use Rattle.rows.specs.Answers.{answered}
+use Rattle.rows.specs.Answers.{asAnswer}
 use Rattle.format.specs.Rows.{rowShape, group}
 use Rattle.rows.proofs.PartLaws.{shows-value, shows-wrong, atom-told, atom-none, one-none, one-is, behind-one}
 use Rattle.rows.proofs.ShapeLaws.{no-atoms, no-letter, no-last, row-is}
@@ -30,7 +30,7 @@ enum-told c = search needs
 
 returns : tie.Need-returns
 unfolding rowShape
-returns c = let line = c .before .before .before .before .args .line .now in record { is = ap answered (no-atoms 1 1 "PM" group line (one-none line (atom-none line 0 _ (c .before .before .atom-at .ensures) (c .enum-told .given .1)))); small = tt }
+returns c = let line = c .before .before .before .before .args .line .now in record { is = ap asAnswer (no-atoms 1 1 "PM" group line (one-none line (atom-none line 0 _ (c .before .before .atom-at .ensures) (c .enum-told .given .1)))); small = tt }
 
 next-field-requires : tie.Need-next-field-requires
 next-field-requires c κs = search needs
@@ -55,7 +55,7 @@ enum-told-2 c = search needs
 
 returns-2 : tie.Need-returns-2
 unfolding rowShape
-returns-2 c = let q = c .before .before .before .before in record { is = ap answered (no-letter 1 1 "PM" group (line-of q) _ (one-is _ _ _ (front q)) _ (behind-one _ _ _ (front q)) _ (q .next-field .ensures) 3 _ (c .before .before .hand .ensures) (c .enum-told2 .given .1)); small = tt }
+returns-2 c = let q = c .before .before .before .before in record { is = ap asAnswer (no-letter 1 1 "PM" group (line-of q) _ (one-is _ _ _ (front q)) _ (behind-one _ _ _ (front q)) _ (q .next-field .ensures) 3 _ (c .before .before .hand .ensures) (c .enum-told2 .given .1)); small = tt }
 
 last-group-requires : tie.Need-last-group-requires
 last-group-requires c κs = let q = c .before .before .before .before .before in q .next-field .ensures .high (front q .high)
@@ -68,11 +68,11 @@ enum-told-3 c = search needs
 
 returns-3 : tie.Need-returns-3
 unfolding rowShape
-returns-3 c = let m = c .before .before .before in let q = m .before .before .before .before .before in record { is = ap answered (no-last 1 1 "PM" group (line-of q) _ (one-is _ _ _ (front q)) _ (behind-one _ _ _ (front q)) _ (q .next-field .ensures) 3 _ (m .before .before .before .hand .ensures) _ (m .before .side .given .1) (shows-wrong 123 _ _ (c .before .before .last-group .ensures) (c .enum-told3 .given .1))); small = tt }
+returns-3 c = let m = c .before .before .before in let q = m .before .before .before .before .before in record { is = ap asAnswer (no-last 1 1 "PM" group (line-of q) _ (one-is _ _ _ (front q)) _ (behind-one _ _ _ (front q)) _ (q .next-field .ensures) 3 _ (m .before .before .before .hand .ensures) _ (m .before .side .given .1) (shows-wrong 123 _ _ (c .before .before .last-group .ensures) (c .enum-told3 .given .1))); small = tt }
 
 returns-4 : tie.Need-returns-4
 unfolding rowShape
-returns-4 c = let m = c .before .before .before .before in let q = m .before .before .before .before .before in let s = m .before .before .before .hand .ensures in let g = c .before .before .before .last-group .ensures in record { is = ap answered (row-is 1 1 "PM" group (line-of q) _ (one-is _ _ _ (front q)) _ (behind-one _ _ _ (front q)) _ (q .next-field .ensures) 3 _ s _ (m .before .side .given .1) _ (shows-value 123 _ _ g _ (c .before .group .given .1))); small = (front q .small, s .small _ (m .before .side .given .1), g .small _ (c .before .group .given .1)) }
+returns-4 c = let m = c .before .before .before .before in let q = m .before .before .before .before .before in let s = m .before .before .before .hand .ensures in let g = c .before .before .before .last-group .ensures in record { is = ap asAnswer (row-is 1 1 "PM" group (line-of q) _ (one-is _ _ _ (front q)) _ (behind-one _ _ _ (front q)) _ (q .next-field .ensures) 3 _ s _ (m .before .side .given .1) _ (shows-value 123 _ _ g _ (c .before .group .given .1))); small = (front q .small, s .small _ (m .before .side .given .1), g .small _ (c .before .group .given .1)) }
 
 pub centre-row-spec : {M : Type 1} → statement M
 centre-row-spec =

@@ -1,5 +1,4 @@
 -- The title or the stand-in: the name from the title's part. Assumes nothing.
-use native.Mathlib.Omega.{arith}
 use borrow.Author.Needs.{needs}
 use Rattle.transfer.proofs.NameLaws.{name-empty, name-shown}
 use Rattle.transfer.proofs.names.title_or.Statement.{statement}
