@@ -3,23 +3,46 @@
 use std::hint::black_box;
 use std::time::Instant;
 
-/// At least so many rounds, and on until so many seconds have passed.
-pub const ROUNDS: usize = 11;
-pub const SECONDS: f64 = 3.0;
+use super::files::File;
+use super::work::{Column, Work};
 
-/// The least seconds that each of some works took; a work is named by its index.
-pub fn best(works: usize, mut work: impl FnMut(usize) -> usize) -> Vec<f64> {
-    let mut least = vec![f64::MAX; works];
+/// At least so many rounds, and on until so many seconds have passed for each work at each place.
+pub const ROUNDS: usize = 11;
+pub const SECONDS: f64 = 0.3;
+
+/// The least seconds that each column took over a file read so many times: at its best place and at its worst.
+pub fn best(columns: &[&Column], file: &File, times: usize) -> Vec<Seconds> {
+    let mut least: Vec<Vec<f64>> = columns.iter().map(|column| vec![f64::MAX; column.works.len()]).collect();
+    let works: usize = columns.iter().map(|column| column.works.len()).sum();
     let (start, mut rounds) = (Instant::now(), 0);
-    while rounds < ROUNDS || start.elapsed().as_secs_f64() < SECONDS {
+    while rounds < ROUNDS || start.elapsed().as_secs_f64() < SECONDS * works as f64 {
         rounds += 1;
-        for (index, least) in least.iter_mut().enumerate() {
-            let began = processor_seconds();
-            black_box(work(black_box(index)));
-            *least = least.min(processor_seconds() - began);
+        for (column, least) in columns.iter().zip(&mut least) {
+            for (work, least) in column.works.iter().zip(least) {
+                *least = least.min(taken(work, file, times));
+            }
         }
     }
-    least
+    let places = |least: &Vec<f64>| Seconds {
+        best: least.iter().copied().fold(f64::MAX, f64::min),
+        worst: least.iter().copied().fold(0.0, f64::max),
+    };
+    least.iter().map(places).collect()
+}
+
+/// Least times of one column.
+pub struct Seconds {
+    pub best: f64,
+    pub worst: f64,
+}
+
+/// The seconds that one work took.
+fn taken(work: &Work, file: &File, times: usize) -> f64 {
+    let began = processor_seconds();
+    for _ in 0..times {
+        black_box(work(black_box(file)));
+    }
+    processor_seconds() - began
 }
 
 /// Seconds and nanoseconds, as the C library tells them.

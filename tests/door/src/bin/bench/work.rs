@@ -1,11 +1,60 @@
 //! What is measured, each over a whole file. The readers are given the blocks' places, so that the walk is not measured with them.
 
-use galebonnet::door;
-use galebonnet_tests::{independent, tuned};
+use std::path::Path;
+
+use galebonnet_tests::independent;
 
 use super::files::File;
+use super::places::{called, libraries, tuned_readers, Library, Read};
 
-pub type Work = fn(&File) -> usize;
+/// A figure of the benchmark: its work at each place that it is linked at.
+pub struct Column {
+    pub name: &'static str,
+    pub works: Vec<Work>,
+}
+
+pub type Work = Box<dyn Fn(&File) -> usize>;
+
+impl Column {
+    /// A work that is linked at one place only.
+    pub fn new(name: &'static str, work: fn(&File) -> usize) -> Column {
+        Column { name, works: vec![Box::new(work)] }
+    }
+}
+
+/// What the proved library does, at each place.
+pub struct Proved {
+    pub walk: Column,
+    pub check: Column,
+    pub read: Column,
+    pub read_and_write: Column,
+}
+
+impl Proved {
+    /// The library in a folder of its places; none where there is none.
+    pub fn new(folder: &Path) -> Option<Proved> {
+        let column = |name, work: fn(&Library, &File) -> usize| {
+            let at_place = |library| Box::new(move |file: &File| work(&library, file)) as Work;
+            Some(Column { name, works: libraries(folder)?.into_iter().map(at_place).collect() })
+        };
+        Some(Proved {
+            walk: column("walk", walk)?,
+            check: column("check", check)?,
+            read: column("read", read)?,
+            read_and_write: column("read and write", read_and_write)?,
+        })
+    }
+
+    pub fn columns(&self) -> [&Column; 4] {
+        [&self.walk, &self.check, &self.read, &self.read_and_write]
+    }
+}
+
+/// The tuned reader, at each place.
+pub fn tuned(folder: &Path) -> Column {
+    let at_place = |read| Box::new(move |file: &File| tuned_read(read, file)) as Work;
+    Column { name: "tuned read", works: tuned_readers(folder).into_iter().map(at_place).collect() }
+}
 
 /// Line feeds counted by a loop that the compiler turns into vector instructions.
 pub fn feeds_vectorised(file: &File) -> usize {
@@ -22,27 +71,27 @@ pub fn feeds_by_bytes(file: &File) -> usize {
     count
 }
 
-pub fn walk(file: &File) -> usize {
+fn walk(library: &Library, file: &File) -> usize {
     let (mut place, mut pieces) = (0, 0);
-    while let (1 | 2, end) = door::walk(&file.bytes, place) {
+    while let (1 | 2, end) = library.walk(&file.bytes, place) {
         pieces += 1;
         place = end;
     }
     pieces
 }
 
-pub fn check(file: &File) -> usize {
-    each_block(file, |block| door::check(block).1)
+fn check(library: &Library, file: &File) -> usize {
+    each_block(file, |block| library.check(block) as usize)
 }
 
-pub fn read(file: &File) -> usize {
+fn read(library: &Library, file: &File) -> usize {
     let mut table = vec![0; 3856];
-    each_block(file, |block| door::read(block, &mut table).1)
+    each_block(file, |block| library.read(block, &mut table) as usize)
 }
 
-pub fn tuned_read(file: &File) -> usize {
+fn tuned_read(read: Read, file: &File) -> usize {
     let mut table = vec![0; 3856];
-    each_block(file, |block| tuned::read(block, &mut table).1)
+    each_block(file, |block| called(read, block, &mut table) as usize)
 }
 
 pub fn independent_walk(file: &File) -> usize {
@@ -55,11 +104,11 @@ pub fn independent_read(file: &File) -> usize {
 }
 
 /// Each block read, and written from the table that it gave.
-pub fn read_and_write(file: &File) -> usize {
+fn read_and_write(library: &Library, file: &File) -> usize {
     let (mut table, mut buffer) = (vec![0; 3856], vec![0; 32_768]);
     each_block(file, |block| {
-        door::read(block, &mut table);
-        door::write(&table, block, &mut buffer).1
+        library.read(block, &mut table);
+        library.write(&table, block, &mut buffer) as usize
     })
 }
 
@@ -72,5 +121,5 @@ pub fn independent_read_and_write(file: &File) -> usize {
 }
 
 fn each_block(file: &File, mut reading: impl FnMut(&[u8]) -> usize) -> usize {
-    file.blocks.iter().map(|range| reading(&file.bytes[range.clone()])).sum()
+    file.blocks.iter().fold(0, |sum, range| sum.wrapping_add(reading(&file.bytes[range.clone()])))
 }
