@@ -2,7 +2,7 @@
 -- first; a line without fields leaves the list. Document 01, "Rows", "Refusal numbers". Assumes nothing.
 use Prim.Native.Nat.{ℕ, _+_, _*_, _≤_, _<_}
 use mathlib.Core.Path.{_≡_, refl, sym, ap, _∙_}
-use mathlib.Core.Bool.{Bool, true, false}
+use mathlib.Core.Bool.{Bool, true, false, _&&_}
 use mathlib.Core.Option.{none, some}
 use mathlib.Core.List.{List, [], _∷_}
 use native.Mathlib.Omega.{arith}
@@ -27,7 +27,7 @@ use Rattle.rows.proofs.AnswerLaws.{values-some, refused-none}
 use Rattle.sorted.specs.Steps.{After, kept, refused, joinAfter, rowAfter, rowStep}
 use Rattle.sorted.specs.Regions.{payloadOf, keyedRegion}
 use Rattle.sorted.specs.Shown.{ShowsAfter, ShowsLine, LineWithin}
-use Rattle.sorted.specs.Keyed.{keyed, drops, inOrder, JoinShows, KeptWithin, RowShows, onLine, LineShows}
+use Rattle.sorted.specs.Keyed.{keyed, drops, regionFits, inOrder, JoinShows, KeptWithin, RowShows, onLine, LineShows}
 use Rattle.sorted.specs.declared.after.RowAfter.{RowAfter}
 use Rattle.sorted.specs.declared.after.RowAfter.the-variants.{Kept, Stop}
 use Rattle.sorted.specs.declared.after.LineAfter.{LineAfter}
@@ -225,3 +225,24 @@ module _ (n a b : ℕ) where
       → RowShows limit (a ∷ b ∷ []) payload dropping n count t u r
   shows-ordered limit payload dropping count t u r h e j =
       shows-joined limit (a ∷ b ∷ []) payload dropping n count t u (1024 * a + b) r h (both-listed n a b (order-first e) (order-second e)) (pair-apart a b (λ q. omega (arith, q, order-below e))) (lower-first a b (order-below e)) j
+
+-- THE REGION THAT IS LENT
+module _ (long size count limit atoms : ℕ) where
+  pub fits-parts : regionFits long size count limit atoms ≡ true → (long ≡ size) × (count ≤ limit) × (atoms ≤ 256)
+  fits-parts e =
+      let p = and-parts (eqb long size) (leb count limit && leb atoms 256) e in
+      let q = and-parts (leb count limit) (leb atoms 256) (p .1) in
+      (eqb-true long size (p .0), leb-true count limit (q .0), leb-true atoms 256 (q .1))
+
+  pub fits-not : regionFits long size count limit atoms ≡ false → long ≡ size → count ≤ limit → atoms ≤ 256 → ⊥
+  fits-not e l c a =
+      torn (regionFits long size count limit atoms) (and-both (eqb long size) (leb count limit && leb atoms 256) (eq-eqb long size l) (and-both (leb count limit) (leb atoms 256) (le-leb count limit c) (le-leb atoms 256 a))) e
+
+  pub fits-length : (long ≡ size → ⊥) → false ≡ regionFits long size count limit atoms
+  fits-length h = sym (and-left-false (eqb long size) (leb count limit && leb atoms 256) (ne-eqb long size h))
+
+  pub fits-count : limit < count → false ≡ regionFits long size count limit atoms
+  fits-count h = sym (and-right-false (eqb long size) (leb count limit && leb atoms 256) (and-left-false (leb count limit) (leb atoms 256) (lt-leb count limit h)))
+
+  pub fits-atoms : long ≡ size → count ≤ limit → leb atoms 256 ≡ regionFits long size count limit atoms
+  fits-atoms l c = rw (eq-eqb long size l, le-leb count limit c) refl

@@ -6,7 +6,7 @@ use mathlib.Core.Bool.{Bool, true, false, _&&_, _||_}
 use mathlib.Core.Option.{some}
 use mathlib.Core.List.{List, _∷_, _++_}
 use lib.ListN.{length, getD, take, drop}
-use lib.Dec.{eqb, ltb}
+use lib.Dec.{eqb, ltb, leb}
 use Rattle.format.specs.Bytes.{Bytes, fields, within}
 use Rattle.format.specs.Labels.{ListOf, Bonds, Charges, Radicals, Centres, Pairs}
 use Rattle.format.specs.Rows.{Row, rowShape}
@@ -62,6 +62,10 @@ KeptWithin limit a = (c : ℕ) → a ≡ Kept c → c ≤ limit
 -- a refusal leaves the region as it is
 abbrev pub StopLeaves : (before after : List ℕ) → RowAfter → Type 0
 StopLeaves before after a = (n : ℕ) → a ≡ Stop n → after ≡ before
+
+-- whether a region is one that a reading lends: of its list's size, with no more rows and atoms than there may be
+abbrev pub regionFits : (long size count limit atoms : ℕ) → Bool
+regionFits long size count limit atoms = eqb long size && (leb count limit && leb atoms 256)
 
 -- whether both atoms are listed, the lower one first
 abbrev pub inOrder : (n first second : ℕ) → Bool

@@ -10,7 +10,7 @@ ghost use Rattle.lists.specs.Lists.{isNil};
 ghost use Rattle.format.specs.Bytes.{within, fields};
 ghost use Rattle.format.specs.Labels.{Bonds, Centres, Pairs};
 ghost use Rattle.sorted.specs.Shown.{LineWithin, LineUntouched};
-ghost use Rattle.sorted.specs.Keyed.{inOrder, KeptWithin, StopLeaves, RowShows, LineShows};
+ghost use Rattle.sorted.specs.Keyed.{regionFits, inOrder, KeptWithin, StopLeaves, RowShows, LineShows};
 use crate::after::LineAfter;
 use crate::after::RowAfter;
 use crate::after::on_line;
@@ -89,6 +89,19 @@ fn two_atoms(
     join(region, count, most, key, payload, drops)
 }
 
+// Whether the region is one that a reading lends: of its list's size, with no more rows and atoms than there may be.
+pub fn region_fits(length: usize, size: usize, count: usize, most: usize, atoms: usize) -> bool
+    ensures { λ r. ⌜ r ≡ regionFits length size count most atoms ⌝ }
+{
+    if length != size {
+        return false;
+    }
+    if most < count {
+        return false;
+    }
+    atoms <= Table::ATOMS
+}
+
 // Whether both atoms are listed, the lower one first, as programs write them.
 fn is_ordered(first: u32, second: u32, atoms: usize) -> bool
     ensures { λ r. ⌜ r ≡ inOrder atoms first second ⌝ }
@@ -114,13 +127,7 @@ pub fn bond_joined(
     ensures { λ r. ⌜ (length (now (region .exit)) ≡ length (now (region .entry))) × StopLeaves (now (region .entry)) (now (region .exit)) r × (length (now (region .entry)) ≡ 1024 → count ≤ 512 → atoms ≤ 256 → kind < 6 →
         KeptWithin 512 r × RowShows 512 (first ∷ second ∷ []) (256 * kind) true atoms count (now (region .entry)) (now (region .exit)) r) ⌝ }
 {
-    if region.len() != Scratch::BONDS {
-        return RowAfter::Stop(0);
-    }
-    if Table::BONDS < count {
-        return RowAfter::Stop(0);
-    }
-    if Table::ATOMS < atoms {
+    if !region_fits(region.len(), Scratch::BONDS, count, Table::BONDS, atoms) {
         return RowAfter::Stop(0);
     }
     if 5 < kind {
@@ -155,13 +162,7 @@ pub fn bond_line(
     ensures { λ r. ⌜ (length (now (region .exit)) ≡ length (now (region .entry))) × (length (now (region .entry)) ≡ 1024 → count ≤ 512 → atoms ≤ 256 → LineWithin 512 r × LineShows Bonds atoms count (now (line .entry)) place (now (region .entry)) (now (region .exit)) r)
         × ((length (now (region .entry)) ≡ 1024 → count ≤ 512 → atoms ≤ 256 → ⊥) → LineUntouched place (now (region .entry)) (now (region .exit)) r) ⌝ }
 {
-    if region.len() != Scratch::BONDS {
-        return LineAfter::Refused(0, place);
-    }
-    if Table::BONDS < count {
-        return LineAfter::Refused(0, place);
-    }
-    if Table::ATOMS < atoms {
+    if !region_fits(region.len(), Scratch::BONDS, count, Table::BONDS, atoms) {
         return LineAfter::Refused(0, place);
     }
     if is_bare(line) {
@@ -174,6 +175,7 @@ pub fn bond_line(
         };
         return LineAfter::Refused(reason, place);
     };
+    // not by `bond_joined`, whose one caller is the run of quick rows: so the compiler lays it into that loop
     let payload = Scratch::PAYLOAD * kind;
     let after = two_atoms(
         atoms,
@@ -199,13 +201,7 @@ pub fn centre_line(
     ensures { λ r. ⌜ (length (now (region .exit)) ≡ length (now (region .entry))) × (length (now (region .entry)) ≡ 256 → count ≤ 128 → atoms ≤ 256 → LineWithin 128 r × LineShows Centres atoms count (now (line .entry)) place (now (region .entry)) (now (region .exit)) r)
         × ((length (now (region .entry)) ≡ 256 → count ≤ 128 → atoms ≤ 256 → ⊥) → LineUntouched place (now (region .entry)) (now (region .exit)) r) ⌝ }
 {
-    if region.len() != Scratch::CENTRES {
-        return LineAfter::Refused(0, place);
-    }
-    if Table::CENTRES < count {
-        return LineAfter::Refused(0, place);
-    }
-    if Table::ATOMS < atoms {
+    if !region_fits(region.len(), Scratch::CENTRES, count, Table::CENTRES, atoms) {
         return LineAfter::Refused(0, place);
     }
     if is_bare(line) {
@@ -234,13 +230,7 @@ pub fn pair_line(
     ensures { λ r. ⌜ (length (now (region .exit)) ≡ length (now (region .entry))) × (length (now (region .entry)) ≡ 256 → count ≤ 128 → atoms ≤ 256 → LineWithin 128 r × LineShows Pairs atoms count (now (line .entry)) place (now (region .entry)) (now (region .exit)) r)
         × ((length (now (region .entry)) ≡ 256 → count ≤ 128 → atoms ≤ 256 → ⊥) → LineUntouched place (now (region .entry)) (now (region .exit)) r) ⌝ }
 {
-    if region.len() != Scratch::PAIRS {
-        return LineAfter::Refused(0, place);
-    }
-    if Table::PAIRS < count {
-        return LineAfter::Refused(0, place);
-    }
-    if Table::ATOMS < atoms {
+    if !region_fits(region.len(), Scratch::PAIRS, count, Table::PAIRS, atoms) {
         return LineAfter::Refused(0, place);
     }
     if is_bare(line) {

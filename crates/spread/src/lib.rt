@@ -26,6 +26,7 @@ use numbers::SignedNumeral;
 use sorted::after::LineAfter;
 use sorted::after::RowAfter;
 use sorted::after::on_line;
+use sorted::keyed::region_fits;
 use sorted::scratch::Scratch;
 
 // The first field: its value as value + 100, 0 where it is beyond its range; or no number.
@@ -272,13 +273,7 @@ pub fn spread_line(
         ShowsLine spreadRegion place (now (region .exit)) r (rowStep (listOf signed) atoms rs (fields (now (line .entry))))))
         × ((length (now (region .entry)) ≡ 321 → count ≤ 64 → atoms ≤ 256 → ⊥) → LineUntouched place (now (region .entry)) (now (region .exit)) r) ⌝ }
 {
-    if region.len() != Scratch::SPREAD {
-        return LineAfter::Refused(0, place);
-    }
-    if Table::CHARGES < count {
-        return LineAfter::Refused(0, place);
-    }
-    if Table::ATOMS < atoms {
+    if !region_fits(region.len(), Scratch::SPREAD, count, Table::CHARGES, atoms) {
         return LineAfter::Refused(0, place);
     }
     let first = fields::next_field(line, 0);

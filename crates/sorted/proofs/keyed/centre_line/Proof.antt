@@ -1,26 +1,24 @@
 -- `sorted::keyed::centre_line` meets its contract. Assumes nothing.
 use mathlib.Core.Path.{refl, sym, _∙_}
 use native.Mathlib.Omega.{arith}
-use Rattle.sorted.proofs.KeyedLaws.{line-within, refused-within, handed-within, shows-blank}
+use borrow.Author.Tests.{not-true, not-false}
+use Rattle.sorted.proofs.KeyedLaws.{line-within, refused-within, handed-within, shows-blank, fits-parts, fits-not}
 use Rattle.sorted.proofs.KeyedLines.{centre-torn, centre-small, centre-refused, centre-shows}
 use borrow.Author.Needs.{needs}
 use Rattle.sorted.proofs.keyed.centre_line.Statement.{statement}
 use Rattle.sorted.proofs.keyed.centre_line.Tie as tie
 
+region-fits-requires : tie.Need-region-fits-requires
+region-fits-requires c κs = search needs
+
 returns : tie.Need-returns
-returns c = (refl, λ long. absurd (c .if1 .taken long), λ other. (refl, refl))
-
-returns-2 : tie.Need-returns-2
-returns-2 c = (refl, λ long few. absurd (omega (arith, few)), λ other. (refl, refl))
-
-returns-3 : tie.Need-returns-3
-returns-3 c = (refl, λ long few atoms. absurd (omega (arith, atoms)), λ other. (refl, refl))
+returns c = (refl, λ long few atoms. absurd (fits-not _ _ _ _ _ (sym (c .before .region-fits .ensures) ∙ not-true _ (c .if1 .taken)) long few atoms), λ other. (refl, refl))
 
 is-bare-requires : tie.Need-is-bare-requires
 is-bare-requires c κs = search needs
 
-returns-4 : tie.Need-returns-4
-returns-4 c = (refl, λ long few atoms. (line-within _ _ few, shows-blank _ _ _ _ _ _ (sym (c .before .is-bare .ensures) ∙ c .if4 .taken)), λ other. absurd (other (omega arith) (omega arith) (omega arith)))
+returns-2 : tie.Need-returns-2
+returns-2 c = (refl, λ long few atoms. (line-within _ _ few, shows-blank _ _ _ _ _ _ (sym (c .before .is-bare .ensures) ∙ c .if2 .taken)), λ other. absurd (let f = fits-parts _ _ _ _ _ (sym (c .before .before .before .region-fits .ensures) ∙ not-false _ (c .before .before .if1 .left)) in other (f .0) (f .1) (f .2)))
 
 centre-row-requires : tie.Need-centre-row-requires
 centre-row-requires c κs = search needs
@@ -37,11 +35,11 @@ enum-known-row-3 c = search needs
 enum-told : tie.Need-enum-told
 enum-told c = search needs
 
-returns-5 : tie.Need-returns-5
-returns-5 c = (refl, λ long few atoms. centre-torn _ _ _ _ (c .enum-told .given .1), λ other. (refl, refl))
+returns-3 : tie.Need-returns-3
+returns-3 c = (refl, λ long few atoms. centre-torn _ _ _ _ (c .enum-told .given .1), λ other. (refl, refl))
 
-returns-6 : tie.Need-returns-6
-returns-6 c = let b = c .before .before .before .before .before .before in (refl, λ long few atoms. (refused-within _ _ _, centre-refused _ _ _ _ _ _ (sym (b .before .before .is-bare .ensures) ∙ b .before .if4 .left) _ (b .centre-row .ensures) _ (c .before .before .before .before .row2 .given .1 ∙ c .before .row3 .given .1)), λ other. absurd (other (omega arith) (omega arith) (omega arith)))
+returns-4 : tie.Need-returns-4
+returns-4 c = let b = c .before .before .before .before .before .before in (refl, λ long few atoms. (refused-within _ _ _, centre-refused _ _ _ _ _ _ (sym (b .before .before .is-bare .ensures) ∙ b .before .if2 .left) _ (b .centre-row .ensures) _ (c .before .before .before .before .row2 .given .1 ∙ c .before .row3 .given .1)), λ other. absurd (let f = fits-parts _ _ _ _ _ (sym (b .before .before .before .before .region-fits .ensures) ∙ not-false _ (b .before .before .before .if1 .left)) in other (f .0) (f .1) (f .2)))
 
 mul-payload : tie.Need-mul-payload
 mul-payload c = let q = centre-small _ _ (c .before .before .before .centre-row .ensures) _ _ _ (c .before .row .given .1) in record { fits = omega (arith, q .0) }
@@ -50,7 +48,7 @@ add-payload : tie.Need-add-payload
 add-payload c = let q = centre-small _ _ (c .before .before .before .centre-row .ensures) _ _ _ (c .before .row .given .1) in record { fits = omega (arith, q .0, q .1) }
 
 one-atom-requires : tie.Need-one-atom-requires
-one-atom-requires c κs = search needs
+one-atom-requires c κs = let f = fits-parts _ _ _ _ _ (sym (c .before .before .before .before .before .before .before .before .region-fits .ensures) ∙ not-false _ (c .before .before .before .before .before .before .before .if1 .left)) in (f .0, f .1, omega arith, f .2)
 
 on-line-requires : tie.Need-on-line-requires
 on-line-requires c κs = search needs
@@ -58,28 +56,27 @@ on-line-requires c κs = search needs
 same-length : tie.Need-same-length
 same-length c = search needs
 
-returns-7 : tie.Need-returns-7
-returns-7 c = let a = c .before .before .before in let v = a .before .before .before in let b = v .before .before in (a .one-atom .ensures .0, λ long few atoms. (handed-within _ _ _ (c .on-line .ensures) _ (a .one-atom .ensures .1), centre-shows _ _ _ _ _ _ (sym (b .before .before .is-bare .ensures) ∙ b .before .if4 .left) _ (b .centre-row .ensures) _ _ _ (v .row .given .1) _ _ (c .on-line .ensures) (a .one-atom .ensures .2)), λ other. absurd (other (omega arith) (omega arith) (omega arith)))
+returns-5 : tie.Need-returns-5
+returns-5 c = let a = c .before .before .before in let v = a .before .before .before in let b = v .before .before in (a .one-atom .ensures .0, λ long few atoms. (handed-within _ _ _ (c .on-line .ensures) _ (a .one-atom .ensures .1), centre-shows _ _ _ _ _ _ (sym (b .before .before .is-bare .ensures) ∙ b .before .if2 .left) _ (b .centre-row .ensures) _ _ _ (v .row .given .1) _ _ (c .on-line .ensures) (a .one-atom .ensures .2)), λ other. absurd (let f = fits-parts _ _ _ _ _ (sym (b .before .before .before .before .region-fits .ensures) ∙ not-false _ (b .before .before .before .if1 .left)) in other (f .0) (f .1) (f .2)))
 
 pub centre-line-spec : {M : Type 1} → statement M
 centre-line-spec =
     tie.close
     (tie.spec
+    region-fits-requires
     returns
-    returns-2
-    returns-3
     is-bare-requires
-    returns-4
+    returns-2
     centre-row-requires
     enum-known-row
     enum-known-row-2
     enum-known-row-3
     enum-told
-    returns-5
-    returns-6
+    returns-3
+    returns-4
     mul-payload
     add-payload
     one-atom-requires
     on-line-requires
     same-length
-    returns-7)
+    returns-5)
