@@ -1,4 +1,5 @@
-/* A C host over the door: the pieces of a transfer file, each block with its judgement, its atoms, its title and the length of its written form.
+/* A C host over the door: the pieces of a transfer file, each block with its judgement, its atoms, its title, the length of its written form and the positions of its
+ * atoms, in Angstrom.
  *
  *     gcc -O2 -Iinclude examples/host.c target/staticlib/libhost.a -o target/host && target/host samples/damaged.jcs
  */
@@ -14,19 +15,31 @@ static uint8_t file[GALEBONNET_FILE + 1];
 static unsigned written(const int32_t *table, const uint8_t *block, size_t length) {
     uint8_t form[GALEBONNET_BLOCK];
     int32_t again[GALEBONNET_TABLE];
+    double positions[GALEBONNET_POSITIONS];
     uint64_t answer = galebonnet_write(table, GALEBONNET_TABLE, block, length, form, sizeof form);
     if (answer >> 32 == GALEBONNET_LONG_FORM) /* the one refusal that a table just read can meet */
         return 0;
-    if (answer >> 32 != GALEBONNET_ACCEPTED || galebonnet_read(form, (size_t)answer, again, GALEBONNET_TABLE) != GALEBONNET_ACCEPTED)
+    if (answer >> 32 != GALEBONNET_ACCEPTED ||
+        galebonnet_read(form, (size_t)answer, again, GALEBONNET_TABLE, positions, GALEBONNET_POSITIONS) != GALEBONNET_ACCEPTED)
         abort();
     if (memcmp(table + GALEBONNET_ATOM(0), again + GALEBONNET_ATOM(0), sizeof again - GALEBONNET_ATOM(0) * sizeof *again) != 0)
         abort();
     return (unsigned)answer;
 }
 
+/* A line for each atom that has a position. */
+static void show_positions(const double *positions) {
+    for (int atom = 1; atom <= GALEBONNET_ATOMS; atom++) {
+        const double *position = positions + GALEBONNET_POSITION(atom - 1);
+        if (position[0] == 1)
+            printf("  atom %d at %.4f %.4f %.4f\n", atom, position[1], position[2], position[3]);
+    }
+}
+
 static void show_block(const uint8_t *block, size_t length) {
     int32_t table[GALEBONNET_TABLE];
-    uint64_t answer = galebonnet_read(block, length, table, GALEBONNET_TABLE);
+    double positions[GALEBONNET_POSITIONS];
+    uint64_t answer = galebonnet_read(block, length, table, GALEBONNET_TABLE, positions, GALEBONNET_POSITIONS);
     uint64_t name = galebonnet_name(block, length);
     const char *title = name ? (const char *)block + (name >> 32) : "?";
     int size = name ? (int)(name & 0xffffffff) : 1;
@@ -36,6 +49,7 @@ static void show_block(const uint8_t *block, size_t length) {
                written(table, block, length));
     else
         printf("refusal %u at %u of the block\n", (unsigned)(answer >> 32), (unsigned)(answer & 0xffffffff));
+    show_positions(positions);
     if (galebonnet_check(block, length) != answer) /* the two always judge alike */
         abort();
 }

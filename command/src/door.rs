@@ -3,7 +3,14 @@
 
 extern "C" {
     fn galebonnet_check(block: *const u8, length: usize) -> u64;
-    fn galebonnet_read(block: *const u8, length: usize, table: *mut i32, numbers: usize) -> u64;
+    fn galebonnet_read(
+        block: *const u8,
+        length: usize,
+        table: *mut i32,
+        numbers: usize,
+        positions: *mut f64,
+        floats: usize,
+    ) -> u64;
     fn galebonnet_write(
         table: *const i32,
         numbers: usize,
@@ -27,10 +34,13 @@ pub fn check(block: &[u8]) -> (u32, usize) {
     apart(unsafe { galebonnet_check(block.as_ptr(), block.len()) })
 }
 
-/// The refusal's number and its place; the table is filled, zeroed or untouched.
-pub fn read(block: &[u8], table: &mut [i32]) -> (u32, usize) {
-    // SAFETY: both pairs are those of slices that do not overlap.
-    apart(unsafe { galebonnet_read(block.as_ptr(), block.len(), table.as_mut_ptr(), table.len()) })
+/// The refusal's number and its place; the table and the positions are filled, zeroed or untouched.
+pub fn read(block: &[u8], table: &mut [i32], positions: &mut [f64]) -> (u32, usize) {
+    let (length, numbers, floats) = (block.len(), table.len(), positions.len());
+    // SAFETY: the three pairs are those of slices that do not overlap.
+    apart(unsafe {
+        galebonnet_read(block.as_ptr(), length, table.as_mut_ptr(), numbers, positions.as_mut_ptr(), floats)
+    })
 }
 
 /// The refusal's number and the count of bytes written; on a refusal the buffer is untouched.

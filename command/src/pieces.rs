@@ -7,8 +7,11 @@ use galebonnet::door;
 
 use crate::report::{Judged, Piece, Report};
 
-/// Numbers of a structure table, and bytes of a block at most.
+/// Numbers of a structure table, floats of a position table and of one position, and bytes of a block
+/// at most.
 const TABLE: usize = 3856;
+const POSITIONS: usize = 1024;
+const POSITION: usize = 4;
 const BLOCK: usize = 32_768;
 
 /// Every piece of one file.
@@ -35,9 +38,10 @@ pub fn all(file: &str, bytes: &[u8], report: &mut Report, mut forms: Option<&mut
 
 /// A block's judgement; an accepted one is written where forms are asked for.
 fn judged(block: &[u8], forms: Option<&mut (dyn Write + 'static)>) -> Judged {
-    let mut table = vec![0; TABLE];
-    let (number, place) = door::read(block, &mut table);
-    let judged = Judged { number, place, atoms: table[0], bonds: table[1] };
+    let (mut table, mut floats) = (vec![0; TABLE], vec![0.0; POSITIONS]);
+    let (number, place) = door::read(block, &mut table, &mut floats);
+    let positions = floats.chunks_exact(POSITION).filter(|position| position[0] == 1.0).count();
+    let judged = Judged { number, place, atoms: table[0], bonds: table[1], positions };
     let (0, Some(forms)) = (number, forms) else { return judged };
     let mut buffer = vec![0; BLOCK];
     let (number, count) = door::write(&table, block, &mut buffer);

@@ -26,6 +26,8 @@ pub fn text(number: u32) -> &'static str {
         23 => "written form over 32,768 bytes",
         31 => "file over 16,777,216 bytes",
         32 => "place beyond the file's end",
+        41 => "MAX_XYZ, XYZ_FACTOR and XYZ not together",
+        42 => "coordinate above MAX_XYZ",
         _ => "unknown refusal",
     }
 }

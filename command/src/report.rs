@@ -21,6 +21,8 @@ pub struct Judged {
     pub place: usize,
     pub atoms: i32,
     pub bonds: i32,
+    /// How many atoms have a position.
+    pub positions: usize,
 }
 
 /// What was seen in all files.
@@ -57,7 +59,7 @@ impl<'a> Report<'a> {
     }
 
     pub fn block(&mut self, piece: &Piece, judged: &Judged) {
-        let Judged { number, place, atoms, bonds } = *judged;
+        let Judged { number, place, atoms, bonds, positions } = *judged;
         let (file, start, end) = (piece.file, piece.start, piece.start + piece.bytes.len());
         let line = piece.line + feeds(&piece.bytes[..place]);
         let place = start + place;
@@ -66,7 +68,7 @@ impl<'a> Report<'a> {
         self.seen.refused += usize::from(number > 0);
         if self.asked.tsv {
             self.put(&format!(
-                "{file}\tblock\t{start}\t{end}\t{number}\t{place}\t{line}\t{atoms}\t{bonds}\t{name}"
+                "{file}\tblock\t{start}\t{end}\t{number}\t{place}\t{line}\t{atoms}\t{bonds}\t{positions}\t{name}"
             ));
         } else if number > 0 {
             let reason = refusals::text(number);
@@ -74,7 +76,10 @@ impl<'a> Report<'a> {
                 "{file}:{line}: refusal {number} ({reason}) at byte {place}, block \"{name}\""
             ));
         } else if self.asked.verbose {
-            self.put(&format!("{file}:{line}: accepted, {atoms} atoms, {bonds} bonds, block \"{name}\""));
+            let placed = if positions > 0 { format!(", {positions} positions") } else { String::new() };
+            self.put(&format!(
+                "{file}:{line}: accepted, {atoms} atoms, {bonds} bonds{placed}, block \"{name}\""
+            ));
         }
     }
 
@@ -84,7 +89,7 @@ impl<'a> Report<'a> {
         self.seen.stray += 1;
         self.seen.content |= content;
         if self.asked.tsv {
-            self.put(&format!("{file}\tstray\t{start}\t{}\t\t{start}\t{line}\t\t\t", start + length));
+            self.put(&format!("{file}\tstray\t{start}\t{}\t\t{start}\t{line}\t\t\t\t", start + length));
         } else if content || self.asked.verbose {
             self.put(&format!("{file}:{line}: stray run of {length} bytes at byte {start}"));
         }

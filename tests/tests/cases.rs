@@ -6,7 +6,7 @@ use std::collections::BTreeSet;
 use std::fs;
 
 /// The program reads its input whole into a fixed room.
-const MOST_BYTES: usize = 1_500_000;
+const MOST_BYTES: usize = 1_048_576;
 
 #[test]
 fn the_stored_run_is_the_independent_one() {
@@ -27,7 +27,7 @@ fn every_refusal_from_1_on_occurs_under_names_that_stand_once() {
         .lines()
         .filter_map(|line| line.split(' ').next().map(str::to_string))
         .collect();
-    let all: BTreeSet<String> = (0..=17).map(|number| number.to_string()).collect();
+    let all: BTreeSet<String> = (0..=17).chain(41..=42).map(|number| number.to_string()).collect();
     assert_eq!(numbers, all);
     let names: BTreeSet<String> = cases().into_iter().map(|case| case.name).collect();
     assert_eq!(names.len(), cases().len());

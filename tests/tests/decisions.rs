@@ -1,6 +1,7 @@
 //! The examples of docs/DECISIONS.md are run, table by table, by what its first two columns are
-//! headed: a block's answer, its answer and what is left in a lent table, its name to show, the
-//! number that the C door answers, and the lines that the program prints for a file.
+//! headed: a block's answer, its answer and what is left in a lent table or in both, an atom's
+//! position, the block's name to show, the number that the C door answers, and the lines that the
+//! program prints for a file.
 //!
 //! Notation of a block or file, in backticks: bytes with the escapes \n \r \t \\ \xHH and \p for a
 //! vertical bar, and \{1-9:text} for a text once for each of these numbers, \i in it the number; or
@@ -8,30 +9,35 @@
 //! `@88+ text`, neon with text behind it.
 
 use galebonnet_tests::generate::neon::{followed, removed, replaced, NEON};
-use galebonnet_tests::independent::{check, name, read, walk_lines};
+use galebonnet_tests::independent::{check, name, position, read, read_table, walk_lines, Position};
 
 /// What a table's examples are run against, by its header; the last column is the other reading.
 #[derive(Clone, Copy)]
 enum Run {
     Answer,
     Lent,
+    BothLent,
+    Position,
     Name,
     Door,
     Walk,
 }
 
-const HEADERS: [([&str; 3], Run); 5] = [
+const HEADERS: [([&str; 3], Run); 7] = [
     (["block", "answer", "other reading"], Run::Answer),
     (["block and numbers lent", "answer and table", "other reading"], Run::Lent),
+    (["block, numbers and floats lent", "answer and both tables", "other reading"], Run::BothLent),
+    (["block and atom", "position", "other reading"], Run::Position),
     (["block", "name to show, `?` the stand-in", "other reading"], Run::Name),
     (["block", "number at the C door", "other reading"], Run::Door),
     (["file", "walk prints", "other reading"], Run::Walk),
 ];
 
-/// How many numbers a table has.
+/// How many numbers and floats the tables have.
 const TABLE: usize = 3856;
+const POSITIONS: usize = 1024;
 
-/// What every number of a lent table is before the reading.
+/// What every number and float of a lent table is before the reading.
 const BEFORE: i32 = 7;
 
 /// The bytes of a text with escapes.
@@ -104,35 +110,71 @@ fn cells(line: &str) -> Option<Vec<&str>> {
     Some(inside.split('|').map(str::trim).collect())
 }
 
-/// The answer for a block read into a table of so many numbers, none of them 0 before, and what is
-/// left there: `untouched`, `zeroed` or `filled`, the numbers beyond the table as they were.
-fn lent(block: &[u8], numbers: usize) -> String {
-    let mut table = vec![BEFORE; numbers];
-    let answer = read(block, &mut table);
-    let mut whole = vec![0; TABLE];
-    read(block, &mut whole);
-    let (own, beyond) = table.split_at(TABLE.min(numbers));
-    let left = match own {
-        _ if beyond.iter().any(|&number| number != BEFORE) => "touched beyond",
-        own if own.iter().all(|&number| number == BEFORE) => "untouched",
-        own if own.iter().all(|&number| number == 0) => "zeroed",
+/// What is left in a lent table: `untouched`, `zeroed` or `filled` as a whole one would be, what lies
+/// beyond the table as it was.
+fn left<Value: PartialEq>(lent: &[Value], before: Value, zero: Value, whole: &[Value]) -> &'static str {
+    let (own, beyond) = lent.split_at(whole.len().min(lent.len()));
+    match own {
+        _ if beyond.iter().any(|value| *value != before) => "touched beyond",
+        own if own.iter().all(|value| *value == before) => "untouched",
+        own if own.iter().all(|value| *value == zero) => "zeroed",
         own if own == whole => "filled",
         _ => "something else",
-    };
-    format!("{}@{} {left}", answer.number, answer.place)
+    }
+}
+
+/// The answer for a block read into tables of so many numbers and floats, none of them 0 before, and
+/// what is left in the two.
+fn lent(block: &[u8], numbers: usize, floats: usize) -> (String, &'static str, &'static str) {
+    let (mut table, mut positions) = (vec![BEFORE; numbers], vec![f64::from(BEFORE); floats]);
+    let answer = read(block, &mut table, &mut positions);
+    let (mut whole, mut whole_positions) = (vec![0; TABLE], vec![0.0; POSITIONS]);
+    read(block, &mut whole, &mut whole_positions);
+    (
+        format!("{}@{}", answer.number, answer.place),
+        left(&table, BEFORE, 0, &whole),
+        left(&positions, f64::from(BEFORE), 0.0, &whole_positions),
+    )
+}
+
+/// The position of an atom in an accepted block, each coordinate by the fewest digits that tell it.
+fn placed(block: &[u8], atom: usize) -> Result<String, String> {
+    let (mut table, mut positions) = (vec![0; TABLE], vec![0.0; POSITIONS]);
+    let answer = read(block, &mut table, &mut positions);
+    match position(&positions, atom) {
+        _ if answer.number != 0 => Err(format!("refused {}@{}", answer.number, answer.place)),
+        Position::At(x, y, z) => Ok(format!("{x} {y} {z}")),
+        Position::NotGiven => Ok("not given".to_string()),
+    }
+}
+
+/// A cell's block and the number behind it.
+fn numbered(input: &str) -> Result<(&str, usize), String> {
+    let (block, number) = input.rsplit_once(", ").ok_or(format!("no number behind the block: {input}"))?;
+    Ok((block, number.parse().map_err(|_| format!("no number: {number}"))?))
 }
 
 /// What is answered for an example.
 fn answered(input: &str, run: Run) -> Result<String, String> {
     Ok(match run {
         Run::Answer => {
-            let answer = read(&meant(quoted(input)?)?, &mut vec![0; TABLE]);
+            let answer = read_table(&meant(quoted(input)?)?, &mut vec![0; TABLE]);
             format!("{}@{}", answer.number, answer.place)
         }
         Run::Lent => {
-            let (block, numbers) = input.rsplit_once(", ").ok_or(format!("no numbers lent: {input}"))?;
-            let numbers = numbers.parse().map_err(|_| format!("no number: {numbers}"))?;
-            lent(&meant(quoted(block)?)?, numbers)
+            let (block, numbers) = numbered(input)?;
+            let (answer, table, _) = lent(&meant(quoted(block)?)?, numbers, POSITIONS);
+            format!("{answer} {table}")
+        }
+        Run::BothLent => {
+            let (both, floats) = numbered(input)?;
+            let (block, numbers) = numbered(both)?;
+            let (answer, table, positions) = lent(&meant(quoted(block)?)?, numbers, floats);
+            format!("{answer} {table}, {positions}")
+        }
+        Run::Position => {
+            let (block, atom) = numbered(input)?;
+            placed(&meant(quoted(block)?)?, atom)?
         }
         Run::Name => String::from_utf8_lossy(name(&meant(quoted(input)?)?, b"?")).replace('\n', "\\n"),
         Run::Door => check(&meant(quoted(input)?)?).to_string(),
@@ -194,7 +236,21 @@ fn the_notation_is_read() {
     assert_eq!(meant("@81-"), Ok(NEON.as_bytes()[..81].to_vec()));
     assert_eq!(meant("@88+  x"), Ok(format!("{NEON} x").into_bytes()));
     assert_eq!(meant("a\\{9-11:\\i \\n}b").as_deref(), Ok(&b"a9 \n10 \n11 \nb"[..]));
-    for wrong in ["\\{1-2}", "\\{1:x}", "\\{a-2:x}", "@77: x", "@88: x", "@88-", "@87+ x", "@: x", "@76", "\\q", "\\x1", "\\x+1", "a\\"] {
+    for wrong in [
+        "\\{1-2}",
+        "\\{1:x}",
+        "\\{a-2:x}",
+        "@77: x",
+        "@88: x",
+        "@88-",
+        "@87+ x",
+        "@: x",
+        "@76",
+        "\\q",
+        "\\x1",
+        "\\x+1",
+        "a\\",
+    ] {
         assert!(meant(wrong).is_err(), "{wrong}");
     }
 }
@@ -214,6 +270,22 @@ fn a_wrong_row_is_a_fault() {
     assert_eq!(run(block, "| `@76: 2 Ne` | 11@76 | 12 |"), 1);
     assert_eq!(run(block, "| `@76: 2 Ne` | `11@76` |"), 1);
     assert_eq!(run(block, "| `` | `4@0` | `16@0` |"), 0);
+    let both = "| block, numbers and floats lent | answer and both tables | other reading |";
+    assert_eq!(
+        run(both, "| `@76: 1 Ne`, 3856, 1023 | `1@0 untouched, untouched` | `0@0 filled, untouched` |"),
+        0
+    );
+    assert_eq!(
+        run(both, "| `@76: 2 Ne`, 3858, 1026 | `11@76 zeroed, zeroed` | `11@76 zeroed, untouched` |"),
+        0
+    );
+    assert_eq!(run(both, "| `@76: 1 Ne`, 3856 | `0@0 filled, zeroed` | 1 |"), 1);
+    let placed = "| block and atom | position | other reading |";
+    let row = "@76: 1 Ne\\n##MAX_XYZ= 9\\n##XYZ_FACTOR= .1\\n##XYZ=\\n1 3 -0 -5";
+    assert_eq!(run(placed, &format!("| `{row}`, 1 | `0.3 0 -0.5` | `0.30000000000000004 -0 -0.5` |")), 0);
+    assert_eq!(run(placed, &format!("| `{row}`, 1 | `0.3 -0 -0.5` | rounded twice |")), 1);
+    assert_eq!(run(placed, &format!("| `{row}`, 2 | `not given` | `0 0 0` |")), 0);
+    assert_eq!(run(placed, "| `@76: 2 Ne`, 1 | `not given` | refused |"), 1);
     let lent = "| block and numbers lent | answer and table | other reading |";
     assert_eq!(run(lent, "| `@76: 2 Ne`, 3857 | `11@76 zeroed` | `11@76 untouched` |"), 0);
     assert_eq!(run(lent, "| `@76: 2 Ne`, 3855 | `11@76 zeroed` | 1 |"), 1);

@@ -1,7 +1,10 @@
-//! The worked examples of document 01: formic acid read and written, and the walk's four lines.
+//! The worked examples of document 01: formic acid read and written, and the walk's four lines; and the
+//! sample of request L2, a molecule in Angstrom.
 
 use galebonnet_tests::generate::neon::{replaced, NEON};
-use galebonnet_tests::independent::{pieces, read, walk, walk_lines, write, Walked, Written};
+use galebonnet_tests::independent::{
+    pieces, position, read, read_table, walk, walk_lines, write, Position, Walked, Written,
+};
 
 const INPUT: &str = "##title= formic acid\n##JCAMP_CS= 3.7 $$ by hand\n##ORIGIN= bench 4\n\
     ##OWNER= public domain\n##MOLFORM= O/2 C H2\n##ATOMLIST=\n$$ AN AS NH\n1 C 1\n2 O\n3 O 1\n\
@@ -13,7 +16,7 @@ const WRITTEN: &str = "##TITLE= formic acid\n##JCAMP-CS= 3.7\n##ORIGIN= bench 4\
 #[test]
 fn formic_acid_is_read() {
     let mut table = vec![9; 3856];
-    assert_eq!(read(INPUT.as_bytes(), &mut table).number, 0);
+    assert_eq!(read_table(INPUT.as_bytes(), &mut table).number, 0);
     let mut expected = vec![0; 3856];
     expected[..2].copy_from_slice(&[3, 2]);
     expected[7..13].copy_from_slice(&[9, 11, 58, 7, 75, 13]);
@@ -27,16 +30,48 @@ fn formic_acid_is_read() {
 #[test]
 fn formic_acid_is_written() {
     let mut table = vec![0; 3856];
-    read(INPUT.as_bytes(), &mut table);
+    read_table(INPUT.as_bytes(), &mut table);
     let mut buffer = vec![b'?'; WRITTEN.len() + 3];
     let written = write(&table, INPUT.as_bytes(), &mut buffer);
     assert_eq!(written, Written { number: 0, count: WRITTEN.len() });
     assert_eq!(buffer, format!("{WRITTEN}???").into_bytes());
 }
 
+fn sample(name: &str) -> String {
+    std::fs::read_to_string(format!("../samples/{name}")).expect("a sample")
+}
+
+/// The sample's rows are whole numbers of 0.0001 Angstrom: each bond is as long as such bonds are.
+#[test]
+fn ethanol_has_the_shape_of_ethanol() {
+    let (mut table, mut positions) = (vec![0; 3856], vec![0.0; 1024]);
+    assert_eq!(read(sample("ethanol.jcs").as_bytes(), &mut table, &mut positions).number, 0);
+    assert_eq!(position(&positions, 1), Position::At(1.1879, -0.3829, 0.0));
+    assert_eq!(position(&positions, 9), Position::At(-0.0227, 1.1812, -0.8852));
+    assert_eq!(position(&positions, 10), Position::NotGiven);
+    let at = |atom: i32| match position(&positions, atom as usize) {
+        Position::At(x, y, z) => [x, y, z],
+        Position::NotGiven => panic!("no position of atom {atom}"),
+    };
+    let element = |atom: i32| table[16 + 5 * (atom as usize - 1)];
+    for bond in table[1296..1296 + 3 * 8].chunks_exact(3) {
+        let apart =
+            at(bond[0]).iter().zip(at(bond[1])).map(|(one, other)| (one - other).powi(2)).sum::<f64>();
+        let mut ends = [element(bond[0]), element(bond[1])];
+        ends.sort();
+        let wanted = match ends {
+            [6, 6] => 1.51,
+            [6, 8] => 1.43,
+            [1, 8] => 0.97,
+            [1, 6] => 1.09,
+            _ => panic!("no bond of ethanol: {bond:?}"),
+        };
+        assert!((apart.sqrt() - wanted).abs() < 0.02, "{bond:?} is {} Angstrom", apart.sqrt());
+    }
+}
+
 #[test]
 fn the_sample_is_formic_acid() {
-    let sample = |name: &str| std::fs::read_to_string(format!("../samples/{name}")).expect("a sample");
     assert_eq!(sample("formic.jcs"), INPUT);
     assert_eq!(sample("formic.canon"), WRITTEN);
 }

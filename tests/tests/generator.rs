@@ -1,7 +1,10 @@
 //! The generator is deterministic, its sound blocks are accepted, and every answer comes often.
 
+use galebonnet_tests::generate::coordinates::{
+    has_coordinates, refused_by_coordinates, sound_coordinate_block,
+};
 use galebonnet_tests::generate::{self, Random};
-use galebonnet_tests::independent::{check, read, write};
+use galebonnet_tests::independent::{check, read, read_table, write};
 use std::collections::BTreeMap;
 
 #[test]
@@ -15,7 +18,7 @@ fn every_refusal_comes_often() {
         small += usize::from(block.len() <= 1500);
     }
     println!("refusals: {counts:?}, small blocks: {small}");
-    for number in [0].into_iter().chain(3..=17) {
+    for number in [0, 41, 42].into_iter().chain(3..=17) {
         let count = counts.get(&number).copied().unwrap_or(0);
         assert!(count >= 200, "refusal {number} came only {count} times: {counts:?}");
     }
@@ -33,6 +36,35 @@ fn sound_blocks_are_accepted() {
     }
     lengths.sort();
     assert!(lengths[19_000] <= 1500, "a twentieth of the sound blocks is over 1,500 bytes");
+}
+
+#[test]
+fn about_a_quarter_of_the_blocks_has_coordinates() {
+    let mut random = Random::new(6);
+    let blocks = (0..10_000).map(|_| generate::block(&mut random));
+    let share = blocks.filter(|block| has_coordinates(block)).count();
+    assert!((2_000..=3_000).contains(&share), "{share} of 10,000");
+    for _ in 0..10_000 {
+        let block = sound_coordinate_block(&mut random);
+        assert!(check(&block) == 0 && has_coordinates(&block), "refused: {}", block.escape_ascii());
+    }
+}
+
+#[test]
+fn three_hundred_blocks_with_coordinates_have_every_refusal_of_theirs() {
+    for seed in 0..20 {
+        let mut random = Random::new(seed);
+        let mut counts: BTreeMap<u32, usize> = BTreeMap::new();
+        for _ in 0..300 {
+            let block = generate::coordinate_block(&mut random);
+            let answer = read_table(&block, &mut [0; 3856]);
+            if let Some(number) = refused_by_coordinates(&block, answer) {
+                *counts.entry(number).or_default() += 1;
+            }
+        }
+        let comes = |number: &u32| counts.get(number).is_some_and(|&count| count >= 5);
+        assert!([9, 10, 11, 13, 41, 42].iter().all(comes), "seed {seed}: {counts:?}");
+    }
 }
 
 #[test]
@@ -63,17 +95,21 @@ fn the_same_seed_gives_the_same_inputs() {
 }
 
 #[test]
-fn a_table_keeps_what_is_not_its_own() {
+fn tables_keep_what_is_not_their_own() {
     let mut random = Random::new(4);
     for _ in 0..500 {
         let block = generate::block(&mut random);
-        let mut table = vec![5; 3860];
-        let answer = read(&block, &mut table);
-        assert_eq!(table[3856..], [5; 4]);
-        assert!(answer.number == 0 || table[..3856].iter().all(|&number| number == 0));
-        let mut short = vec![5; 3855];
-        assert_eq!(read(&block, &mut short).number, 1);
-        assert!(short.iter().all(|&number| number == 5));
+        let (mut table, mut positions) = (vec![5; 3860], vec![5.0; 1030]);
+        let answer = read(&block, &mut table, &mut positions);
+        assert_eq!((&table[3856..], &positions[1024..]), (&[5; 4][..], &[5.0; 6][..]));
+        let cleared = table[..3856].iter().all(|&number| number == 0);
+        let positions_cleared = positions[..1024].iter().all(|&float| float == 0.0);
+        assert!(answer.number == 0 || (cleared && positions_cleared));
+        for (numbers, floats) in [(3855, 1024), (3856, 1023), (3855, 1023)] {
+            let (mut short, mut positions) = (vec![5; numbers], vec![5.0; floats]);
+            assert_eq!(read(&block, &mut short, &mut positions).number, 1);
+            assert!(short.iter().all(|&number| number == 5) && positions.iter().all(|&float| float == 5.0));
+        }
     }
 }
 
@@ -83,13 +119,20 @@ fn the_benchmarks_blocks_are_what_they_are_called() {
     for _ in 0..2_000 {
         let block = generate::typical::typical_block(&mut random);
         let mut table = vec![0; 3856];
-        assert_eq!(read(&block, &mut table).number, 0, "refused: {}", block.escape_ascii());
+        assert_eq!(read_table(&block, &mut table).number, 0, "refused: {}", block.escape_ascii());
         assert!((6..=24).contains(&table[0]), "{} atoms", table[0]);
     }
+    for _ in 0..500 {
+        let block = generate::typical::typical_coordinate_block(&mut random);
+        let (mut table, mut positions) = (vec![0; 3856], vec![0.0; 1024]);
+        assert_eq!(read(&block, &mut table, &mut positions).number, 0, "refused: {}", block.escape_ascii());
+        let given = positions.chunks_exact(4).filter(|position| position[0] == 1.0).count();
+        assert!((20..=30).contains(&table[0]) && given == table[0] as usize, "{given} positions");
+    }
     let mut table = vec![0; 3856];
-    assert_eq!(read(&generate::typical::largest_block(), &mut table).number, 0);
+    assert_eq!(read_table(&generate::typical::largest_block(), &mut table).number, 0);
     assert_eq!(table[..6], [256, 512, 0, 0, 0, 0]);
-    assert_eq!(read(&generate::typical::full_block(), &mut table).number, 0);
+    assert_eq!(read_table(&generate::typical::full_block(), &mut table).number, 0);
     assert_eq!(table[..6], [256, 512, 64, 64, 128, 128]);
     let worst = generate::typical::worst_blocks();
     let answers: Vec<(usize, u64)> =

@@ -5,7 +5,7 @@ use galebonnet_tests::independent::check;
 use std::collections::{BTreeMap, BTreeSet};
 
 /// Cases at a limit and one over it, each with its refusal number.
-const EXPECTED: [(&str, u64); 47] = [
+const EXPECTED: [(&str, u64); 73] = [
     ("256 atoms", 0),
     ("257 atoms", 14),
     ("512 bonds", 0),
@@ -53,6 +53,32 @@ const EXPECTED: [(&str, u64); 47] = [
     ("group z", 0),
     ("group 00", 9),
     ("one charge over 256 atoms", 0),
+    ("MAX_XYZ ` 0`", 0),
+    ("MAX_XYZ ` 999999`", 0),
+    ("MAX_XYZ ` 1000000`", 9),
+    ("MAX_XYZ ` 000001`", 0),
+    ("MAX_XYZ ` 0000001`", 9),
+    ("value 64 in column 0 under MAX_XYZ 64", 0),
+    ("value 65 in column 0 under MAX_XYZ 64", 42),
+    ("value -64 in column 1 under MAX_XYZ 64", 0),
+    ("value -65 in column 1 under MAX_XYZ 64", 42),
+    ("value 999999 in column 2 under MAX_XYZ 999999", 0),
+    ("value 999999 in column 2 under MAX_XYZ 999998", 42),
+    ("XYZ_FACTOR ` 999999999`", 0),
+    ("XYZ_FACTOR ` 1234567890`", 9),
+    ("XYZ_FACTOR ` .000000001`", 0),
+    ("XYZ_FACTOR ` .0000000001`", 9),
+    ("XYZ_FACTOR ` 000000000`", 10),
+    ("XYZ_FACTOR ` 0000000000`", 9),
+    ("XYZ row `1 999999 -999999 +999999`", 0),
+    ("XYZ row `1 1000000 0 0`", 9),
+    ("XYZ row `3 0 0 0`", 0),
+    ("XYZ row `4 0 0 0`", 11),
+    ("256 rows of coordinates, 0 decimals", 0),
+    ("row `257 0 0 0` after 256 rows of coordinates", 11),
+    ("row `256 0 0 0` after 256 rows of coordinates", 13),
+    ("END line with 41 and 42", 41),
+    ("END line with 42 and 15", 15),
 ];
 
 /// The refusal numbers by the cases' names.
@@ -67,7 +93,7 @@ fn every_name_stands_once_and_every_refusal_occurs() {
     assert_eq!(names.len(), cases.len());
     assert!(cases.len() >= 400, "only {} cases", cases.len());
     let seen: BTreeSet<u64> = numbers().into_values().collect();
-    let all: BTreeSet<u64> = [0].into_iter().chain(2..=17).collect();
+    let all: BTreeSet<u64> = [0, 41, 42].into_iter().chain(2..=17).collect();
     assert_eq!(seen, all);
 }
 

@@ -2,16 +2,16 @@
 
 use galebonnet_tests::generate::crowded::{each_atom, two_ends, Crowded};
 use galebonnet_tests::generate::neon::{replaced, NEON};
-use galebonnet_tests::independent::read;
+use galebonnet_tests::independent::read_table;
 
 fn answer(block: &[u8]) -> String {
-    let answer = read(block, &mut vec![7; 3856]);
+    let answer = read_table(block, &mut vec![7; 3856]);
     format!("{}@{}", answer.number, answer.place)
 }
 
 /// The refusal number and the line it is placed on.
 fn answer_line(block: &[u8]) -> (u32, String) {
-    let answer = read(block, &mut vec![7; 3856]);
+    let answer = read_table(block, &mut vec![7; 3856]);
     let rest = block[answer.place..].split(|&byte| byte == b'\n').next().unwrap_or(&[]);
     (answer.number, String::from_utf8_lossy(rest).into_owned())
 }
@@ -34,7 +34,7 @@ fn molecule(formula: &str, rows: &str) -> String {
 /// The refusal number of a formula of which no atom is listed; 15 (at END) if its line is sound.
 fn formula(formula: &str) -> u32 {
     let block = NEON.replace("= Ne", &format!("= {formula}"));
-    let answer = read(block.as_bytes(), &mut vec![7; 3856]);
+    let answer = read_table(block.as_bytes(), &mut vec![7; 3856]);
     let expected = if answer.number == 15 { block.len() - 7 } else { 50 };
     assert_eq!(answer.place, expected, "place of formula {formula}");
     answer.number

@@ -1,17 +1,17 @@
 //! Open points G and H: what the table holds, and the END line, by hand.
 
 use galebonnet_tests::generate::neon::{followed, replaced, NEON};
-use galebonnet_tests::independent::read;
+use galebonnet_tests::independent::read_table;
 
 /// The table of an accepted block.
 fn table(block: &str) -> Vec<i32> {
     let mut table = vec![-5; 3856];
-    assert_eq!(read(block.as_bytes(), &mut table).number, 0, "{block}");
+    assert_eq!(read_table(block.as_bytes(), &mut table).number, 0, "{block}");
     table
 }
 
 fn answer(block: &[u8]) -> String {
-    let answer = read(block, &mut vec![7; 3856]);
+    let answer = read_table(block, &mut vec![7; 3856]);
     format!("{}@{}", answer.number, answer.place)
 }
 
@@ -82,7 +82,7 @@ fn g1_every_element_is_known() {
     for upper in 'A'..='Z' {
         let letters = std::iter::once(String::new()).chain(('a'..='z').map(String::from));
         for symbol in letters.map(|lower| format!("{upper}{lower}")) {
-            let answer = read(NEON.replace("1 Ne", &format!("1 {symbol}")).as_bytes(), &mut [0; 3856]);
+            let answer = read_table(NEON.replace("1 Ne", &format!("1 {symbol}")).as_bytes(), &mut [0; 3856]);
             known += usize::from(answer.number != 12);
         }
     }
@@ -93,7 +93,7 @@ fn g1_every_element_is_known() {
 fn g8_g9_m3_what_stays_and_what_is_zeroed() {
     for (block, number) in [(NEON.to_string(), 0), (NEON[..81].to_string(), 16), (format!("{NEON}x"), 17)] {
         let mut lent = vec![-9; 3900];
-        assert_eq!(read(block.as_bytes(), &mut lent).number, number);
+        assert_eq!(read_table(block.as_bytes(), &mut lent).number, number);
         assert_eq!(lent[3856..], [-9; 44]);
         let nonzero: Vec<(usize, i32)> =
             (0..3856).filter(|&place| lent[place] != 0).map(|place| (place, lent[place])).collect();

@@ -1,12 +1,12 @@
 //! Open points I and J: soundness item by item, and the written form, by hand.
 
 use galebonnet_tests::generate::neon::NEON;
-use galebonnet_tests::independent::{read, write, Written};
+use galebonnet_tests::independent::{read_table, write, Written};
 
 /// The table of an accepted block.
 fn table(block: &str) -> Vec<i32> {
     let mut table = vec![0; 3856];
-    assert_eq!(read(block.as_bytes(), &mut table).number, 0, "{block}");
+    assert_eq!(read_table(block.as_bytes(), &mut table).number, 0, "{block}");
     table
 }
 

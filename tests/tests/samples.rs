@@ -3,7 +3,7 @@
 use std::fs;
 use std::path::Path;
 
-use galebonnet_tests::independent::{pieces, read, walk_lines, write, Walked};
+use galebonnet_tests::independent::{pieces, read_table, walk_lines, write, Walked};
 
 /// Calls a function with every sample; there are enough of them.
 fn each_sample(mut told: impl FnMut(&Path, &[u8])) {
@@ -40,7 +40,7 @@ fn forms(file: &[u8]) -> Vec<u8> {
     for piece in pieces(file) {
         let Walked::Block { start, end } = piece else { continue };
         let (mut table, mut buffer) = (vec![0; 3856], vec![0; 32_768]);
-        if read(&file[start..end], &mut table).number == 0 {
+        if read_table(&file[start..end], &mut table).number == 0 {
             let written = write(&table, &file[start..end], &mut buffer);
             forms.extend(&buffer[..written.count]);
         }

@@ -2,11 +2,11 @@
 
 use galebonnet_tests::generate::crowded::Crowded;
 use galebonnet_tests::generate::neon::{followed, removed, replaced, NEON};
-use galebonnet_tests::independent::{check, read, Answer};
+use galebonnet_tests::independent::{check, read_table, Answer};
 
 fn answer(block: &[u8]) -> (u32, usize) {
     let mut table = vec![7; 3856];
-    let Answer { number, place } = read(block, &mut table);
+    let Answer { number, place } = read_table(block, &mut table);
     assert_eq!(check(block), (u64::from(number) << 32) + place as u64);
     (number, place)
 }

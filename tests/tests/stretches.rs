@@ -3,7 +3,7 @@
 
 use galebonnet_tests::generate::neon::NEON;
 use galebonnet_tests::generate::{file, sound_block, Random};
-use galebonnet_tests::independent::{pieces, read, walk, walk_lines, Walked};
+use galebonnet_tests::independent::{pieces, read, walk, walk_lines, Answer, Walked};
 
 /// An answer moved by so many bytes.
 fn moved(walked: &Walked, by: usize) -> Walked {
@@ -14,13 +14,17 @@ fn moved(walked: &Walked, by: usize) -> Walked {
     }
 }
 
-/// The walk's answers with the reading of each block: its answer and its whole table.
-fn answers(file: &[u8], by: usize) -> Vec<(Walked, u32, usize, Vec<i32>)> {
+/// A piece, and for a block its answer, its whole table and its positions bit by bit.
+type Answered = (Walked, Option<(Answer, Vec<i32>, Vec<u64>)>);
+
+/// The walk's answers with the reading of each block.
+fn answers(file: &[u8], by: usize) -> Vec<Answered> {
     let reading = |walked: &Walked| {
-        let mut table = vec![1; 3856];
-        let Walked::Block { start, end } = *walked else { return (moved(walked, by), 0, 0, vec![]) };
-        let answer = read(&file[start..end], &mut table);
-        (moved(walked, by), answer.number, answer.place, table)
+        let Walked::Block { start, end } = *walked else { return (moved(walked, by), None) };
+        let (mut table, mut positions) = (vec![1; 3856], vec![1.0; 1024]);
+        let answer = read(&file[start..end], &mut table, &mut positions);
+        let bits = positions.into_iter().map(f64::to_bits).collect();
+        (moved(walked, by), Some((answer, table, bits)))
     };
     pieces(file).iter().map(reading).collect()
 }

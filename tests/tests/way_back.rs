@@ -3,7 +3,7 @@
 
 use galebonnet_tests::generate::tables::sound_table;
 use galebonnet_tests::generate::{table_case, Random};
-use galebonnet_tests::independent::{read, write, Answer};
+use galebonnet_tests::independent::{read_table, write, Answer};
 
 /// The three texts of a table in the bytes they stand in.
 fn texts<'a>(table: &[i32], bytes: &'a [u8]) -> Vec<&'a [u8]> {
@@ -26,7 +26,7 @@ fn comes_back(table: &[i32], bytes: &[u8]) {
     let form = &buffer[..written.count];
     assert!(buffer[written.count..].iter().all(|&byte| byte == b'?'));
     let mut back = vec![-1; 3856];
-    assert_eq!(read(form, &mut back), Answer { number: 0, place: 0 }, "{}", form.escape_ascii());
+    assert_eq!(read_table(form, &mut back), Answer { number: 0, place: 0 }, "{}", form.escape_ascii());
     assert_eq!(without_places(&back), without_places(table), "{}", form.escape_ascii());
     assert_eq!(texts(&back, form), texts(table, bytes));
     let mut again = vec![0; written.count];

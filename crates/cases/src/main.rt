@@ -1,9 +1,10 @@
-// The program `cases`: every case of document 01 that is not starred, through the built reader. Standard input holds the cases one behind the other: a head of eight
-// bytes, `T` for a whole table or `S` for one that is too short, the block's length in six digits, a line feed; then the block. It prints for each case `number
-// place atoms bonds`, which the gate holds to what the independent reader gives for the same input.
+// The program `cases`: every case of document 01 that is not starred, and those of the coordinates (document 02, L2), through the built reader. Standard input holds the
+// cases one behind the other: a head of eight bytes, `T` for a whole structure table or `S` for one that is too short, the block's length in six digits, a line feed; then
+// the block. It prints for each case `number place atoms bonds`, which the gate holds to what the independent reader gives for the same input.
 ghost use Prim.Native.Nat.{_+_, _≤_, _<_};
 ghost use mathlib.Core.Path.{_≡_};
 ghost use lib.ListN.{length};
+use coordinates::table::Positions;
 use format::Table;
 use reader::Answer;
 
@@ -58,17 +59,19 @@ fn print_line(answer: Answer, table: &[i32]) {
     io::write_all(1, &[b'\n']);
 }
 
-// A block read into a whole table.
+// A block read into two whole tables.
 fn print_whole(block: &[u8]) {
     let mut table = [0i32; Table::SIZE];
-    let answer = reader::read(block, &mut table);
+    let mut positions = [0f64; Positions::SIZE];
+    let answer = reader::read(block, &mut table, &mut positions);
     print_line(answer, &table);
 }
 
-// A block read into a table that is one number too short.
+// A block read into a structure table that is one number too short.
 fn print_short(block: &[u8]) {
     let mut table = [0i32; Table::SIZE - 1];
-    let answer = reader::read(block, &mut table);
+    let mut positions = [0f64; Positions::SIZE];
+    let answer = reader::read(block, &mut table, &mut positions);
     print_line(answer, &table);
 }
 

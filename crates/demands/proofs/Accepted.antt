@@ -1,45 +1,46 @@
--- A block is accepted exactly when its lines and rows obey the rules of document 01, said without the reading's state: the twelve tests of each line, taken
+-- A block is accepted exactly when its lines and rows obey the rules of document 01, said without the reading's state: the tests of each line, taken
 -- along all lines, are the fields of `Obeys`. Assumes nothing.
 use Prim.Native.Nat.{ℕ, zero, suc, _+_, _≤_, _<_}
 use mathlib.Core.Path.{_≡_, refl, sym, ap, _∙_}
 use mathlib.Core.Bool.{Bool, true, false, not, _&&_, _||_, or-false}
 use mathlib.Core.Option.{Option, none, some}
-use mathlib.Core.List.{List, [], _∷_, map}
+use mathlib.Core.List.{List, [], _∷_, map, reverse}
 use native.Mathlib.Omega.{arith}
-use lib.ListN.{length, length-map, drop}
-use lib.IntN.{ℤ}
+use lib.ListN.{length, length-map}
 use lib.Dec.{eqb, ltb, leb}
 use borrow.Author.Tests.{ltb-false, le-ltb, leb-true, le-leb, ne-eqb, not-true}
 use Rattle.lists.specs.Lists.{all, any, pairs, flat}
 use Rattle.lists.specs.Folding.{kept}
 use Rattle.lists.proofs.Bools.{torn, always, and-parts, and-both, not-or, not-of-false}
-use Rattle.lists.proofs.ListLaws.{all-same, any-nil, any-all}
+use Rattle.lists.proofs.ListLaws.{all-same, any-same, any-nil, any-all}
 use Rattle.lists.proofs.SortLaws.{sort-all}
 use Rattle.format.specs.Bytes.{Bytes, bytes, within, gap, allowed, cut}
 use Rattle.format.specs.Labels.{ListOf, Bonds, Charges, Radicals, Centres, Pairs, Skipped, lineOf, endLine}
 use Rattle.format.specs.Rows.{Row, AtomRow}
+use Rattle.format.specs.Coordinates.{XyzRow, factor, geometry, exceeds}
 use Rattle.format.specs.Structure.{Atom, rowsOf, most, meets, clash, entriesOf, total, agree}
-use Rattle.format.specs.Reading.{strict, State, atomCount, lacks, ordered, over, start, Outcome, Accepted, Refused, Reading, Read, Unread, readingOf, readLines, readBlock}
-use Rattle.format.specs.Table.{ReadResult, tableOf, readResult}
+use Rattle.format.specs.Reading.{strict, State, atomCount, lacks, partly, ordered, over, start, Outcome, Accepted, Refused, Reading, Read, Unread, readingOf, readLines, readBlock}
+use Rattle.format.specs.Table.{Lent, short, ReadResult, readInto, readResult}
 use Rattle.format.proofs.AcceptedLaws.{block-refuses}
 use Rattle.format.proofs.TotalLaws.{agree-every, every-agree}
 use Rattle.format.proofs.Computing.{computing}
 use Rattle.demands.specs.Examples.{neon, wrongNeon}
-use Rattle.demands.specs.Accepted.{told, unparted, titleFirst, behindEnd, labels, outOfOrder, named, entriesAs, numbered, ownRule, furtherRule, atomOf, toldOf, atomRows, listRows, molforms, Obeys, _exactlyWhen_}
-use Rattle.demands.proofs.AcceptedContents.{atoms-are, rows-are, formulaIn, formula-are, atomOn, rowOf, entriesOn}
+use Rattle.demands.specs.Accepted.{told, unparted, titleFirst, behindEnd, labels, outOfOrder, named, entriesAs, numbered, ownRule, furtherRule, atomOf, toldOf, atomRows, listRows, molforms, firstOr, xyzRows, greatestIn, factorIn, Obeys, _exactlyWhen_}
+use Rattle.demands.proofs.AcceptedContents.{atoms-are, rows-are, formulaIn, formula-are, greatest-are, factor-are, xyz-are, atomOn, rowOf, entriesOn, greatestOn, factorOn, xyzOn}
 use Rattle.format.proofs.RefusedLaws.{long-read}
-use Rattle.demands.proofs.AcceptedSteps.{afters, along, along-and, along-all, keeps, when, acceptedAs, read-is, listPasses, formulaPasses, valueTest, onLine, titledAt, closedAt, nextAtom, roomAt, listedAt, apartAt, heldAt, present, complete}
+use Rattle.demands.proofs.AcceptedSteps.{afters, along, along-and, along-all, keeps, when, acceptedAs, read-is, listPasses, formulaPasses, valueTest, onLine, titledAt, closedAt, nextAtom, roomAt, listedAt, apartAt, heldAt, xyzListedAt, xyzAboveAt, present, together, complete}
 use Rattle.demands.proofs.AcceptedLines.{placed, placed-ordered, titled-first, closed-is, ownTest, own-is}
 use Rattle.demands.proofs.AcceptedRows.{atomTest, numbers-are, atoms-roomy, afters-atoms, along-imply, along-every, line-each, line-every, rowTest, freeRow, heldRow, rows-free, rows-held}
 use Rattle.demands.proofs.AcceptedOrder.{Follows, listedRow, rows-listed, seen-any, ready, end-is, end-none}
 use Rattle.demands.proofs.AcceptedOnce.{formula-is}
 use Rattle.demands.proofs.AcceptedFormula.{asked-is, Molform, molform-read, molform-passes, molform-entries}
+use Rattle.demands.proofs.AcceptedGeometry.{xyzTest, xyz-listed, notAbove, xyz-above, afters-xyz, exceeds-reverse, greatest-is, factor-is}
 
--- THE TWELVE TESTS, each along all lines
+-- THE TESTS, each along all lines
 abbrev listTest : (State → ListOf → Row → Bool) → State → Bytes → Bool
 listTest test st b = onLine (listPasses (test st)) (listPasses (test st)) (st .running) b (lineOf b)
 
-pub record Twelve (k : ℕ) (st : State) (ls : List Bytes) : Type 0 where
+pub record Tests (k : ℕ) (st : State) (ls : List Bytes) : Type 0 where
   pub fine : along k (λ s l. all allowed l) st ls ≡ true
   pub titled : along k titledAt st ls ≡ true
   pub parted : along k (λ s l. not (unparted (lineOf l))) st ls ≡ true
@@ -51,6 +52,8 @@ pub record Twelve (k : ℕ) (st : State) (ls : List Bytes) : Type 0 where
   pub listed : along k (listTest listedAt) st ls ≡ true
   pub apart : along k (listTest apartAt) st ls ≡ true
   pub held : along k (listTest heldAt) st ls ≡ true
+  pub xyz-named : along k (xyzTest xyzListedAt) st ls ≡ true
+  pub xyz-rising : along k (xyzTest xyzAboveAt) st ls ≡ true
   pub end : along k (ready k) st ls ≡ true
 
 module _ (k : ℕ) (st : State) (ls : List Bytes) where
@@ -60,8 +63,14 @@ module _ (k : ℕ) (st : State) (ls : List Bytes) where
   both : (p q : State → Bytes → Bool) → along k p st ls ≡ true → along k q st ls ≡ true → along k (λ s l. p s l && q s l) st ls ≡ true
   both p q f g = along-and k p q st ls ∙ and-both (along k p st ls) (along k q st ls) f g
 
+  abbrev from13 : State → Bytes → Bool
+  from13 s l = xyzTest xyzAboveAt s l && ready k s l
+
+  abbrev from12 : State → Bytes → Bool
+  from12 s l = xyzTest xyzListedAt s l && from13 s l
+
   abbrev from11 : State → Bytes → Bool
-  from11 s l = listTest heldAt s l && ready k s l
+  from11 s l = listTest heldAt s l && from12 s l
 
   abbrev from10 : State → Bytes → Bool
   from10 s l = listTest apartAt s l && from11 s l
@@ -90,8 +99,8 @@ module _ (k : ℕ) (st : State) (ls : List Bytes) where
   abbrev from2 : State → Bytes → Bool
   from2 s l = titledAt s l && from3 s l
 
-  pub twelve : along k (keeps k) st ls ≡ true → Twelve k st ls
-  twelve h =
+  pub each-test : along k (keeps k) st ls ≡ true → Tests k st ls
+  each-test h =
       let p1 : (along k (λ s l. all allowed l) st ls ≡ true) × (along k from2 st ls ≡ true) = part (λ s l. all allowed l) from2 h in
       let p2 : (along k titledAt st ls ≡ true) × (along k from3 st ls ≡ true) = part titledAt from3 (p1 .1) in
       let p3 : (along k (λ s l. not (unparted (lineOf l))) st ls ≡ true) × (along k from4 st ls ≡ true) = part (λ s l. not (unparted (lineOf l))) from4 (p2 .1) in
@@ -102,11 +111,13 @@ module _ (k : ℕ) (st : State) (ls : List Bytes) where
       let p8 : (along k (atomTest roomAt) st ls ≡ true) × (along k from9 st ls ≡ true) = part (atomTest roomAt) from9 (p7 .1) in
       let p9 : (along k (listTest listedAt) st ls ≡ true) × (along k from10 st ls ≡ true) = part (listTest listedAt) from10 (p8 .1) in
       let p10 : (along k (listTest apartAt) st ls ≡ true) × (along k from11 st ls ≡ true) = part (listTest apartAt) from11 (p9 .1) in
-      let p11 : (along k (listTest heldAt) st ls ≡ true) × (along k (ready k) st ls ≡ true) = part (listTest heldAt) (ready k) (p10 .1) in
-      record { fine = p1 .0; titled = p2 .0; parted = p3 .0; ordered-labels = p4 .0; closed = p5 .0; own = p6 .0; next = p7 .0; room = p8 .0; listed = p9 .0; apart = p10 .0; held = p11 .0; end = p11 .1 }
+      let p11 : (along k (listTest heldAt) st ls ≡ true) × (along k from12 st ls ≡ true) = part (listTest heldAt) from12 (p10 .1) in
+      let p12 : (along k (xyzTest xyzListedAt) st ls ≡ true) × (along k from13 st ls ≡ true) = part (xyzTest xyzListedAt) from13 (p11 .1) in
+      let p13 : (along k (xyzTest xyzAboveAt) st ls ≡ true) × (along k (ready k) st ls ≡ true) = part (xyzTest xyzAboveAt) (ready k) (p12 .1) in
+      record { fine = p1 .0; titled = p2 .0; parted = p3 .0; ordered-labels = p4 .0; closed = p5 .0; own = p6 .0; next = p7 .0; room = p8 .0; listed = p9 .0; apart = p10 .0; held = p11 .0; xyz-named = p12 .0; xyz-rising = p13 .0; end = p13 .1 }
 
-  pub all-twelve : Twelve k st ls → along k (keeps k) st ls ≡ true
-  all-twelve x =
+  pub all-tests : Tests k st ls → along k (keeps k) st ls ≡ true
+  all-tests x =
       both (λ s l. all allowed l) from2 (x .fine)
       (both titledAt from3 (x .titled)
       (both (λ s l. not (unparted (lineOf l))) from4 (x .parted)
@@ -117,7 +128,9 @@ module _ (k : ℕ) (st : State) (ls : List Bytes) where
       (both (atomTest roomAt) from9 (x .room)
       (both (listTest listedAt) from10 (x .listed)
       (both (listTest apartAt) from11 (x .apart)
-      (both (listTest heldAt) (ready k) (x .held) (x .end)))))))))))
+      (both (listTest heldAt) from12 (x .held)
+      (both (xyzTest xyzListedAt) from13 (x .xyz-named)
+      (both (xyzTest xyzAboveAt) (ready k) (x .xyz-rising) (x .end)))))))))))))
 
 -- AT THE START nothing has been read
 pub start-rows : (l : ListOf) → rowsOf l (start .body) ≡ []
@@ -146,6 +159,20 @@ module _ (k : ℕ) (ls : List Bytes) where
   last-formula : along k (placed k) start ls ≡ true → last .formula ≡ flat (entriesOn k) (told Skipped ls)
   unfolding start
   last-formula h = formula-is k start ls refl h
+
+  last-lacks : (c : ℕ) → lacks (last .seen) c ≡ lacks (labels ls) c
+  unfolding lacks start
+  last-lacks c = ap not (seen-any k (λ x. eqb (x .code) c) start ls ∙ ap (λ (t : Bool). named (labels ls) c || t) (any-nil (λ x. eqb (x .code) c)) ∙ or-false (named (labels ls) c))
+
+  last-partly : (cs : List ℕ) → partly (last .seen) cs ≡ partly (labels ls) cs
+  unfolding partly
+  last-partly cs =
+      ap (λ (t : Bool). t && not (all (lacks (last .seen)) cs)) (any-same (lacks (last .seen)) (lacks (labels ls)) last-lacks cs)
+      ∙ ap (λ (t : Bool). any (lacks (labels ls)) cs && not t) (all-same (lacks (last .seen)) (lacks (labels ls)) last-lacks cs)
+
+  last-geometry : along k (placed k) start ls ≡ true → last .geometry ≡ geometry (firstOr 0 (flat greatestOn (told Skipped ls))) (firstOr (factor 0 0) (flat factorOn (told Skipped ls))) (reverse (flat xyzOn (told Skipped ls)))
+  unfolding start
+  last-geometry h = rw (sym (greatest-is k start ls refl h), sym (factor-is k start ls refl h), sym (afters-xyz k start ls))
 
   last-named : (c : ℕ) → not (lacks (last .seen) c) ≡ named (labels ls) c
   unfolding lacks start
@@ -197,6 +224,15 @@ module _ (k : ℕ) (ls : List Bytes) where
   every-held h =
       along-every k (λ l. rowTest k l (heldRow k l)) (listTest heldAt) (λ st b f. line-every (heldAt st) (λ m r. heldRow k m st r) (λ m r. refl) (st .running) b (lineOf b) f) start ls h
 
+  -- those of XYZ
+  xyz-named-is : along k (placed k) start ls ≡ true → along k (xyzTest xyzListedAt) start ls ≡ all (λ r. within 1 (length rowsOfAtoms) (r .atom)) (flat xyzOn (told Skipped ls))
+  unfolding start
+  xyz-named-is h = xyz-listed k start ls start-follows h ∙ ap (λ (n : ℕ). all (λ r. within 1 n (r .atom)) (flat xyzOn (told Skipped ls))) last-count
+
+  xyz-rising-is : along k (xyzTest xyzAboveAt) start ls ≡ not (pairs (notAbove k) (flat xyzOn (told Skipped ls)))
+  unfolding start
+  xyz-rising-is = xyz-above k start ls refl
+
   -- and what each says of the rows of its list
   abbrev rowsHere : ListOf → List Row
   rowsHere l = flat (rowOf l) (told Skipped ls)
@@ -238,7 +274,7 @@ module _ (k : ℕ) (ls : List Bytes) where
 
 -- THE READING of a block
 abbrev good : Reading → Bool
-good (Read s spans) = true
+good (Read s spans p) = true
 good (Unread n p) = false
 
 isSome : Option State → Bool
@@ -302,12 +338,28 @@ module _ (k : ℕ) (b : Bytes) where
   says-held : (l : ListOf) → along k (rowTest k l (heldRow k l)) start lines ≡ leb (length (kept (meets l) [] (listRows l b))) (most l)
   says-held l = held-is k lines l ∙ ap (λ (rs : List Row). leb (length (kept (meets l) [] rs)) (most l)) (sym (rows-are l b))
 
-  obeys : length b ≤ 32768 → Twelve k start lines → over (afters k start lines .running) ≡ true → Obeys k b
+  says-xyz-named : along k (placed k) start lines ≡ true → along k (xyzTest xyzListedAt) start lines ≡ all (λ r. within 1 (length (atomRows b)) (r .atom)) (xyzRows b)
+  says-xyz-named h =
+      xyz-named-is k lines h ∙ ap (λ (rs : List AtomRow). all (λ r. within 1 (length rs) (r .atom)) (flat xyzOn (told Skipped lines))) (sym (atoms-are b))
+      ∙ ap (all (λ r. within 1 (length (atomRows b)) (r .atom))) (sym (xyz-are b))
+
+  says-xyz-rising : along k (xyzTest xyzAboveAt) start lines ≡ not (pairs (notAbove k) (xyzRows b))
+  says-xyz-rising = xyz-rising-is k lines ∙ ap (λ (rs : List XyzRow). not (pairs (notAbove k) rs)) (sym (xyz-are b))
+
+  pub says-geometry : along k (placed k) start lines ≡ true → afters k start lines .geometry ≡ geometry (greatestIn b) (factorIn b) (reverse (xyzRows b))
+  says-geometry h = last-geometry k lines h ∙ rw (greatest-are b, factor-are b, xyz-are b)
+
+  says-bounded : along k (placed k) start lines ≡ true → exceeds (afters k start lines .geometry) ≡ exceeds (geometry (greatestIn b) (factorIn b) (xyzRows b))
+  says-bounded h = ap exceeds (says-geometry h) ∙ exceeds-reverse (greatestIn b) (factorIn b) (xyzRows b)
+
+  obeys : length b ≤ 32768 → Tests k start lines → over (afters k start lines .running) ≡ true → Obeys k b
   obeys short x o =
       let e : any endLine lines ≡ true = end-found k lines o in
       let c : complete (afters k start lines) ≡ true = sym (end-is k start lines (start-over k lines) (x .closed) e .0) ∙ x .end in
-      let d : (present (afters k start lines) ≡ true) × (agree (afters k start lines .formula) (entriesOf (afters k start lines .body .atoms)) ≡ true) = and-parts _ _ c in
-      let p : (all (named (labels lines)) (2 ∷ 3 ∷ 4 ∷ 5 ∷ []) ≡ true) × (not (eqb (length (atomRows b)) 0) ≡ true) = and-parts _ _ (sym (says-present) ∙ d .0) in
+      let c1 : (present (afters k start lines) ≡ true) × ((agree (afters k start lines .formula) (entriesOf (afters k start lines .body .atoms)) && (together (afters k start lines) && not (exceeds (afters k start lines .geometry)))) ≡ true) = and-parts _ _ c in
+      let c2 : (agree (afters k start lines .formula) (entriesOf (afters k start lines .body .atoms)) ≡ true) × ((together (afters k start lines) && not (exceeds (afters k start lines .geometry))) ≡ true) = and-parts _ _ (c1 .1) in
+      let c3 : (together (afters k start lines) ≡ true) × (not (exceeds (afters k start lines .geometry)) ≡ true) = and-parts _ _ (c2 .1) in
+      let p : (all (named (labels lines)) (2 ∷ 3 ∷ 4 ∷ 5 ∷ []) ≡ true) × (not (eqb (length (atomRows b)) 0) ≡ true) = and-parts _ _ (sym (says-present) ∙ c1 .0) in
       let f : (all (formulaPasses k) (molforms b) ≡ true) × (all (ownRule k) (toldOf b) ≡ true) = and-parts _ _ (sym (asked-is k b) ∙ sym (fine-is k lines) ∙ x .own) in
       let m : Molform k b = molform-read k b (x .ordered-labels) (p .0) (f .0) in
       record {
@@ -329,7 +381,11 @@ module _ (k : ℕ) (b : Bytes) where
         rows-apart = λ l. not-true (pairs (clash l) (listRows l b)) (sym (says-apart l) ∙ each-apart k lines (x .apart) l);
         rows-held = λ l. leb-true (length (kept (meets l) [] (listRows l b))) (most l) (sym (says-held l) ∙ each-held k lines (x .held) l);
         required = p .0;
-        totals = λ i. sym (ap (total i) (says-formula (x .ordered-labels) ∙ molform-entries k b m)) ∙ agree-every _ _ (d .1) i ∙ ap (λ (as′ : List Atom). total i (entriesOf as′)) (says-atoms);
+        totals = λ i. sym (ap (total i) (says-formula (x .ordered-labels) ∙ molform-entries k b m)) ∙ agree-every _ _ (c2 .0) i ∙ ap (λ (as′ : List Atom). total i (entriesOf as′)) (says-atoms);
+        xyz-listed = sym (says-xyz-named (x .ordered-labels)) ∙ x .xyz-named;
+        xyz-ascending = not-true (pairs (notAbove k) (xyzRows b)) (sym says-xyz-rising ∙ x .xyz-rising);
+        xyz-together = sym (last-partly k lines (14 ∷ 15 ∷ 16 ∷ [])) ∙ not-true (partly (afters k start lines .seen) (14 ∷ 15 ∷ 16 ∷ [])) (c3 .0);
+        xyz-bounded = sym (says-bounded (x .ordered-labels)) ∙ not-true (exceeds (afters k start lines .geometry)) (c3 .1);
         end-there = e;
         end-last = sym (blank-is k lines) ∙ x .closed;
       }
@@ -338,8 +394,8 @@ module _ (k : ℕ) (b : Bytes) where
       some-there zero e = torn true refl e
       some-there (suc n) e = omega arith
 
-  pub twelve-kept : Obeys k b → Twelve k start lines
-  twelve-kept y =
+  pub tests-kept : Obeys k b → Tests k start lines
+  tests-kept y =
       let ord : along k (placed k) start lines ≡ true = placed-ordered k lines ∙ not-of-false _ (y .labels-ordered) in
       let cl : along k closedAt start lines ≡ true = blank-is k lines ∙ y .end-last in
       let m : Molform k b = record { value = y .molform; once = y .molform-once; formula = y .formula; said = y .formula-said; fine = y .formula-fine } in
@@ -349,6 +405,8 @@ module _ (k : ℕ) (b : Bytes) where
       every-agree _ _ (λ i. ap (total i) fo ∙ y .totals i ∙ sym (ap (λ (as′ : List Atom). total i (entriesOf as′)) at)) in
       let pr : present (afters k start lines) ≡ true =
       says-present ∙ and-both _ _ (y .required) (not-of-false (eqb (length (atomRows b)) 0) (ne-eqb (length (atomRows b)) 0 (λ e. omega (arith, y .atoms-there, e)))) in
+      let tg : together (afters k start lines) ≡ true = not-of-false _ (last-partly k lines (14 ∷ 15 ∷ 16 ∷ []) ∙ y .xyz-together) in
+      let bd : not (exceeds (afters k start lines .geometry)) ≡ true = not-of-false _ (says-bounded ord ∙ y .xyz-bounded) in
       record {
         fine = along-all k (all allowed) start lines ∙ y .allowed-bytes;
         titled = titled-back k lines (y .title-first);
@@ -361,14 +419,16 @@ module _ (k : ℕ) (b : Bytes) where
         listed = every-listed k lines (λ l. says-listed l ord ∙ y .rows-listed l);
         apart = every-apart k lines (λ l. says-apart l ∙ not-of-false _ (y .rows-apart l));
         held = every-held k lines (λ l. says-held l ∙ le-leb _ (most l) (y .rows-held l));
-        end = end-is k start lines (start-over k lines) cl (y .end-there) .0 ∙ and-both _ _ pr ag;
+        xyz-named = says-xyz-named ord ∙ y .xyz-listed;
+        xyz-rising = says-xyz-rising ∙ not-of-false _ (y .xyz-ascending);
+        end = end-is k start lines (start-over k lines) cl (y .end-there) .0 ∙ and-both _ _ pr (and-both _ _ ag (and-both _ _ tg bd));
       }
 
   pub end-reached : Obeys k b → over (afters k start lines .running) ≡ true
-  end-reached y = end-is k start lines (start-over k lines) (twelve-kept y .closed) (y .end-there) .1
+  end-reached y = end-is k start lines (start-over k lines) (tests-kept y .closed) (y .end-there) .1
 
   pub all-kept : Obeys k b → along k (keeps k) start lines ≡ true
-  all-kept y = all-twelve k start lines (twelve-kept y)
+  all-kept y = all-tests k start lines (tests-kept y)
 
   block-iff : (good (readBlock (strict k) b) ≡ true) exactlyWhen Obeys k b
   block-iff = (to, back)
@@ -377,7 +437,7 @@ module _ (k : ℕ) (b : Bytes) where
       to h =
           let p : (not (ltb 32768 (length b)) ≡ true) × ((along k (keeps k) start lines && over (afters k start lines .running)) ≡ true) = and-parts _ _ (sym (block-good k b) ∙ h) in
           let q : (along k (keeps k) start lines ≡ true) × (over (afters k start lines .running) ≡ true) = and-parts _ _ (p .1) in
-          obeys (ltb-false 32768 (length b) (not-true (ltb 32768 (length b)) (p .0))) (twelve k start lines (q .0)) (q .1)
+          obeys (ltb-false 32768 (length b) (not-true (ltb 32768 (length b)) (p .0))) (each-test k start lines (q .0)) (q .1)
 
       back : Obeys k b → good (readBlock (strict k) b) ≡ true
       back y =
@@ -386,14 +446,14 @@ module _ (k : ℕ) (b : Bytes) where
           (and-both _ _ (all-kept y) (end-reached y))
 
   -- ACCEPTED EXACTLY WHEN
-  number-good : (rest : List ℤ) (r : Reading) → ((n p : ℕ) → r ≡ Unread n p → 0 < n) → (tableOf rest r .number ≡ 0) exactlyWhen (good r ≡ true)
-  number-good rest (Read s spans) f = (λ e. refl, λ e. refl)
-  number-good rest (Unread n p) f = (λ e. absurd (omega (arith, f n p refl, e)), λ e. torn false e refl)
+  number-good : (l : Lent) (r : Reading) → ((n p : ℕ) → r ≡ Unread n p → 0 < n) → (readInto l r .number ≡ 0) exactlyWhen (good r ≡ true)
+  number-good l (Read s spans p) f = (λ e. refl, λ e. refl)
+  number-good l (Unread n p) f = (λ e. absurd (omega (arith, f n p refl, e)), λ e. torn false e refl)
 
-  pub accepted-iff : (t : List ℤ) → 3856 ≤ length t → (readResult k b t .number ≡ 0) exactlyWhen Obeys k b
-  accepted-iff t h =
-      let q : readResult k b t ≡ tableOf (drop 3856 t) (readBlock (strict k) b) = long-read k b t h in
-      let g : (tableOf (drop 3856 t) (readBlock (strict k) b) .number ≡ 0) exactlyWhen (good (readBlock (strict k) b) ≡ true) = number-good (drop 3856 t) (readBlock (strict k) b) (block-refuses (strict k) b) in
+  pub accepted-iff : (l : Lent) → short l ≡ false → (readResult k b l .number ≡ 0) exactlyWhen Obeys k b
+  accepted-iff l h =
+      let q : readResult k b l ≡ readInto l (readBlock (strict k) b) = long-read k b l h in
+      let g : (readInto l (readBlock (strict k) b) .number ≡ 0) exactlyWhen (good (readBlock (strict k) b) ≡ true) = number-good l (readBlock (strict k) b) (block-refuses (strict k) b) in
       (λ e. block-iff .0 (g .0 (sym (ap (λ (r : ReadResult). r .number) q) ∙ e)), λ y. ap (λ (r : ReadResult). r .number) q ∙ g .1 (block-iff .1 y))
 
 -- the neon block obeys, the block with `2 Ne` does not

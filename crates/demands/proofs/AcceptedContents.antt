@@ -1,8 +1,8 @@
 -- What each line contributes, by the record it stands in: an atom row, a row of a list, the formula's entries, the block id. All lines' contributions are the
 -- block's rows, entries and ids as `Obeys` and `structureIn` say them of the records. Serves "accepted exactly when". Assumes nothing.
-use Prim.Native.Nat.{ℕ, _+_, _<_}
-use mathlib.Core.Path.{_≡_, refl, sym, ap, _∙_}
-use mathlib.Core.Bool.{Bool, true, false}
+use Prim.Native.Nat.{ℕ, _+_, _<_, _≤_}
+use mathlib.Core.Path.{_≡_, refl, sym, ap, _∙_, subst}
+use mathlib.Core.Bool.{Bool, true, false, _||_}
 use mathlib.Core.List.{List, [], _∷_, _++_, map, map-append}
 use native.Mathlib.Omega.{arith}
 use lib.Dec.{eqb}
@@ -11,24 +11,85 @@ use Rattle.lists.specs.Lists.{flat}
 use Rattle.lists.proofs.Bools.{torn, both-ways}
 use Rattle.lists.proofs.PartLaws.{flat-nil, flat-cons, flat-one, flat-append, flat-same}
 use Rattle.format.specs.Bytes.{Bytes, fields, strip}
-use Rattle.format.specs.Labels.{ListOf, Bonds, Charges, Radicals, Centres, Pairs, Holds, Text, Version, Formula, BlockId, Atoms, Rows, End, Skipped}
+use Rattle.format.specs.Labels.{ListOf, Bonds, Charges, Radicals, Centres, Pairs, XyzOf, MaxXyz, XyzFactor, XyzRows, Holds, Text, Version, Formula, BlockId, Atoms, Rows, Xyz, End, Skipped}
 use Rattle.format.specs.Rows.{Row, AtomRow, number, field, atomShape, rowShape}
 use Rattle.format.specs.Formula.{formulaShape}
+use Rattle.format.specs.Coordinates.{XyzRow, xyzShape, Factor, factor, factorShape}
 use Rattle.format.specs.Structure.{Entry}
-use Rattle.format.specs.Reading.{ordered}
-use Rattle.demands.specs.Accepted.{Told, Value, Further, place, kind, onlyIf, valueIn, lineIn, listed, rowOn, rowsBy, entriesAs, toldOf, atomRows, listRows, molforms}
+use Rattle.format.specs.Reading.{ordered, onlyField}
+use Rattle.demands.specs.Accepted.{Told, Value, Further, place, part, kind, onlyIf, valueIn, lineIn, listed, rowOn, rowsBy, entriesAs, toldOf, atomRows, listRows, molforms, firstOr, xyzRows, greatestIn, factorIn}
 use Rattle.demands.specs.ReadAs.{idsIn}
+
+-- BY WHAT A RECORD HOLDS, with what all the others have: the formula, the id, the atoms, a list; or a part of the geometry
+module _ {A : Type 0} where
+  abbrev pub byHolds : (rest formula id atoms : A) → (ListOf → A) → Holds → A
+  byHolds z f n a r (Text i) = z
+  byHolds z f n a r Version = z
+  byHolds z f n a r Formula = f
+  byHolds z f n a r BlockId = n
+  byHolds z f n a r Atoms = a
+  byHolds z f n a r (Rows l) = r l
+  byHolds z f n a r (Xyz x) = z
+  byHolds z f n a r End = z
+  byHolds z f n a r Skipped = z
+
+  abbrev pub byGeometry : (rest : A) → (XyzOf → A) → Holds → A
+  byGeometry z f (Text i) = z
+  byGeometry z f Version = z
+  byGeometry z f Formula = z
+  byGeometry z f BlockId = z
+  byGeometry z f Atoms = z
+  byGeometry z f (Rows l) = z
+  byGeometry z f (Xyz x) = f x
+  byGeometry z f End = z
+  byGeometry z f Skipped = z
+
+  abbrev pub byXyz : (greatest factor rows : A) → XyzOf → A
+  byXyz m f r MaxXyz = m
+  byXyz m f r XyzFactor = f
+  byXyz m f r XyzRows = r
+
+  -- what each of them has, that of any record has
+  module _ (P : A → Type 0) where
+    pub holds-each : (z f n a : A) (r : ListOf → A) → P z → P f → P n → P a → ((l : ListOf) → P (r l)) → (h : Holds) → P (byHolds z f n a r h)
+    holds-each z f n a r pz pf pn pa pr (Text i) = pz
+    holds-each z f n a r pz pf pn pa pr Version = pz
+    holds-each z f n a r pz pf pn pa pr Formula = pf
+    holds-each z f n a r pz pf pn pa pr BlockId = pn
+    holds-each z f n a r pz pf pn pa pr Atoms = pa
+    holds-each z f n a r pz pf pn pa pr (Rows l) = pr l
+    holds-each z f n a r pz pf pn pa pr (Xyz x) = pz
+    holds-each z f n a r pz pf pn pa pr End = pz
+    holds-each z f n a r pz pf pn pa pr Skipped = pz
+
+-- a record is one of the geometry's three, or it has what all the others have
+geometry-view : (P : Holds → Type 0) → ((h : Holds) → ((A : Type 0) (z : A) (f : XyzOf → A) → byGeometry z f h ≡ z) → P h) → ((x : XyzOf) → P (Xyz x)) → (h : Holds) → P h
+geometry-view P rest own (Text i) = rest (Text i) (λ A z f. refl)
+geometry-view P rest own Version = rest Version (λ A z f. refl)
+geometry-view P rest own Formula = rest Formula (λ A z f. refl)
+geometry-view P rest own BlockId = rest BlockId (λ A z f. refl)
+geometry-view P rest own Atoms = rest Atoms (λ A z f. refl)
+geometry-view P rest own (Rows l) = rest (Rows l) (λ A z f. refl)
+geometry-view P rest own (Xyz x) = own x
+geometry-view P rest own End = rest End (λ A z f. refl)
+geometry-view P rest own Skipped = rest Skipped (λ A z f. refl)
+
+module _ {A : Type 0} (z : A) (f : XyzOf → A) where
+  pub geometry-each : (P : A → Type 0) → P z → ((x : XyzOf) → P (f x)) → (h : Holds) → P (byGeometry z f h)
+  geometry-each P pz pf = geometry-view (λ h. P (byGeometry z f h)) (λ h q. subst P (sym (q A z f)) pz) pf
+
+  pub geometry-same : (y : A) (g : XyzOf → A) → z ≡ y → ((x : XyzOf) → f x ≡ g x) → (h : Holds) → byGeometry z f h ≡ byGeometry y g h
+  geometry-same y g e p = geometry-view (λ h. byGeometry z f h ≡ byGeometry y g h) (λ h q. q A z f ∙ e ∙ sym (q A y g)) p
+
+  pub geometry-map : {B : Type 0} (m : A → B) (h : Holds) → m (byGeometry z f h) ≡ byGeometry (m z) (λ x. m (f x)) h
+  geometry-map {B = B} m = geometry-view (λ h. m (byGeometry z f h) ≡ byGeometry (m z) (λ x. m (f x)) h) (λ h q. ap m (q A z f) ∙ sym (q B (m z) (λ x. m (f x)))) (λ x. refl)
+
+  pub geometry-quiet : (held : XyzOf → Bool) → ((x : XyzOf) → held x ≡ false → f x ≡ z) → (h : Holds) → byGeometry false held h ≡ false → byGeometry z f h ≡ z
+  geometry-quiet held p = geometry-view (λ h. byGeometry false held h ≡ false → byGeometry z f h ≡ z) (λ h q e. q A z f) p
 
 -- WHAT A LINE CONTRIBUTES
 abbrev pub atomIn : Holds → Bytes → List AtomRow
-atomIn (Text i) l = []
-atomIn Version l = []
-atomIn Formula l = []
-atomIn BlockId l = []
-atomIn Atoms l = rowOn atomShape (fields (strip l))
-atomIn (Rows m) l = []
-atomIn End l = []
-atomIn Skipped l = []
+atomIn h l = byHolds [] [] [] (rowOn atomShape (fields (strip l))) (λ m. []) h
 
 abbrev pub atomOn : Told → List AtomRow
 atomOn (Value h v) = atomIn h v
@@ -38,69 +99,65 @@ abbrev pub sameList : ListOf → ListOf → Bool
 sameList l m = eqb (place l) (place m)
 
 abbrev pub rowIn : ListOf → Holds → Bytes → List Row
-rowIn l (Text i) b = []
-rowIn l Version b = []
-rowIn l Formula b = []
-rowIn l BlockId b = []
-rowIn l Atoms b = []
-rowIn l (Rows m) b = elim (sameList l m) [ true ↦ map ordered (rowOn (rowShape m) (fields (strip b))) | false ↦ [] ]
-rowIn l End b = []
-rowIn l Skipped b = []
+rowIn l h b = byHolds [] [] [] [] (λ m. elim (sameList l m) [ true ↦ map ordered (rowOn (rowShape m) (fields (strip b))) | false ↦ [] ]) h
 
 abbrev pub rowOf : ListOf → Told → List Row
 rowOf l (Value h v) = rowIn l h v
 rowOf l (Further h b) = rowIn l h b
 
 abbrev pub entriesIn : (k : ℕ) → Holds → Bytes → List Entry
-entriesIn k (Text i) v = []
-entriesIn k Version v = []
-entriesIn k Formula v = entriesAs k (formulaShape (strip v))
-entriesIn k BlockId v = []
-entriesIn k Atoms v = []
-entriesIn k (Rows m) v = []
-entriesIn k End v = []
-entriesIn k Skipped v = []
+entriesIn k h v = byHolds [] (entriesAs k (formulaShape (strip v))) [] [] (λ m. []) h
 
 abbrev pub entriesOn : (k : ℕ) → Told → List Entry
 entriesOn k (Value h v) = entriesIn k h v
 entriesOn k (Further h l) = []
 
 abbrev pub idIn : Holds → Bytes → List ℕ
-idIn (Text i) v = []
-idIn Version v = []
-idIn Formula v = []
-idIn BlockId v = listed (number (field 0 (fields (strip v))))
-idIn Atoms v = []
-idIn (Rows m) v = []
-idIn End v = []
-idIn Skipped v = []
+idIn h v = byHolds [] [] (listed (number (field 0 (fields (strip v))))) [] (λ m. []) h
 
 abbrev pub idOn : Told → List ℕ
 idOn (Value h v) = idIn h v
 idOn (Further h l) = []
 
--- which records give a formula, an id, atoms, rows
-abbrev byHolds : (formula id atoms rows : Bool) → Holds → Bool
-byHolds f n a r (Text i) = false
-byHolds f n a r Version = false
-byHolds f n a r Formula = f
-byHolds f n a r BlockId = n
-byHolds f n a r Atoms = a
-byHolds f n a r (Rows l) = r
-byHolds f n a r End = false
-byHolds f n a r Skipped = false
+abbrev pub greatestBy : Holds → Bytes → List ℕ
+greatestBy h v = byGeometry [] (byXyz (listed (number (onlyField (fields (strip v))))) [] []) h
 
+abbrev pub greatestOn : Told → List ℕ
+greatestOn (Value h v) = greatestBy h v
+greatestOn (Further h l) = []
+
+abbrev pub factorBy : Holds → Bytes → List Factor
+factorBy h v = byGeometry [] (byXyz [] (listed (factorShape (onlyField (fields (strip v))))) []) h
+
+abbrev pub factorOn : Told → List Factor
+factorOn (Value h v) = factorBy h v
+factorOn (Further h l) = []
+
+abbrev pub xyzIn : Holds → Bytes → List XyzRow
+xyzIn h l = byGeometry [] (byXyz [] [] (rowOn xyzShape (fields (strip l)))) h
+
+abbrev pub xyzOn : Told → List XyzRow
+xyzOn (Value h v) = xyzIn h v
+xyzOn (Further h l) = xyzIn h l
+
+-- which records give a formula, an id, atoms, MAX_XYZ, the factor; which stand behind the atoms
 abbrev pub formulaHeld : Holds → Bool
-formulaHeld h = byHolds true false false false h
+formulaHeld h = byHolds false true false false (λ l. false) h
 
 abbrev pub idHeld : Holds → Bool
-idHeld h = byHolds false true false false h
+idHeld h = byHolds false false true false (λ l. false) h
 
 abbrev pub atomsHeld : Holds → Bool
-atomsHeld h = byHolds false false true false h
+atomsHeld h = byHolds false false false true (λ l. false) h
 
-abbrev pub rowsHeld : Holds → Bool
-rowsHeld h = byHolds false false false true h
+abbrev pub greatestHeld : Holds → Bool
+greatestHeld h = byGeometry false (byXyz true false false) h
+
+abbrev pub factorHeld : Holds → Bool
+factorHeld h = byGeometry false (byXyz false true false) h
+
+abbrev pub behindAtoms : Holds → Bool
+behindAtoms h = byHolds false false false false (λ l. true) h || byGeometry false (λ x. true) h
 
 -- LISTS OF LISTS
 module _ {A B C : Type 0} where
@@ -148,6 +205,9 @@ list-same Radicals = refl
 list-same Centres = refl
 list-same Pairs = refl
 
+part-kind : (x : XyzOf) (n : ℕ) → n < 12 → eqb n (12 + part x) ≡ false
+part-kind x n h = ne-eqb n (12 + part x) (λ e. omega (arith, h, e))
+
 list-kind : (l : ListOf) (n : ℕ) → n < 7 → eqb n (7 + place l) ≡ false
 list-kind l n h = ne-eqb n (7 + place l) (λ e. omega (arith, h, e))
 
@@ -158,6 +218,13 @@ kinds-lists : (l m : ListOf) → eqb (7 + place l) (7 + place m) ≡ sameList l 
 kinds-lists l m =
     both-ways (eqb (7 + place l) (7 + place m)) (sameList l m) (λ e. eq-eqb (place l) (place m) (omega (arith, eqb-true (7 + place l) (7 + place m) e)))
     (λ e. eq-eqb (7 + place l) (7 + place m) (ap (λ (n : ℕ). 7 + n) (eqb-true (place l) (place m) e)))
+
+few-lists : (l : ListOf) → 7 + place l < 12
+few-lists Bonds = omega arith
+few-lists Charges = omega arith
+few-lists Radicals = omega arith
+few-lists Centres = omega arith
+few-lists Pairs = omega arith
 
 -- what is only there if a test is true
 module _ {A : Type 0} (f : Bytes → List A) (l : Bytes) where
@@ -175,6 +242,7 @@ atom-line Formula l = only-false _ l false refl
 atom-line BlockId l = only-false _ l false refl
 atom-line Atoms l = only-true _ l
 atom-line (Rows m) l = only-false _ l (eqb 4 (7 + place m)) (list-kind m 4 (omega arith))
+atom-line (Xyz x) l = only-false _ l (eqb 4 (12 + part x)) (part-kind x 4 (omega arith))
 atom-line End l = only-false _ l false refl
 atom-line Skipped l = only-false _ l false refl
 
@@ -198,6 +266,7 @@ module _ (l : ListOf) where
       by : (s : Bool) → sameList l m ≡ s → map ordered (rowsBy (rowShape l) (onlyIf s b)) ≡ elim s as (λ (t : Bool). List Row) [ true ↦ map ordered (rowOn (rowShape m) (fields (strip b))) | false ↦ [] ]
       by true e = ap (map ordered) (only-true _ b) ∙ ap (λ (n : ListOf). map ordered (rowOn (rowShape n) (fields (strip b)))) (same-list l m e)
       by false e = ap (map ordered) (only-false _ b false refl)
+  row-line (Xyz x) b = ap (map ordered) (only-false _ b (eqb (7 + place l) (12 + part x)) (part-kind x (7 + place l) (few-lists l)))
   row-line End b = ap (map ordered) (only-false _ b (eqb (7 + place l) 5) (kind-list l 5 (omega arith)))
   row-line Skipped b = ap (map ordered) (only-false _ b (eqb (7 + place l) 6) (kind-list l 6 (omega arith)))
 
@@ -217,6 +286,7 @@ formula-kind Formula = refl
 formula-kind BlockId = refl
 formula-kind Atoms = refl
 formula-kind (Rows m) = list-kind m 2 (omega arith)
+formula-kind (Xyz x) = part-kind x 2 (omega arith)
 formula-kind End = refl
 formula-kind Skipped = refl
 
@@ -227,6 +297,7 @@ entries-line k Formula v = only-true _ v
 entries-line k BlockId v = only-false _ v false refl
 entries-line k Atoms v = only-false _ v false refl
 entries-line k (Rows m) v = only-false _ v (eqb 2 (7 + place m)) (list-kind m 2 (omega arith))
+entries-line k (Xyz x) v = only-false _ v (eqb 2 (12 + part x)) (part-kind x 2 (omega arith))
 entries-line k End v = only-false _ v false refl
 entries-line k Skipped v = only-false _ v false refl
 
@@ -249,6 +320,7 @@ id-line Formula v = only-false _ v false refl
 id-line BlockId v = only-true _ v
 id-line Atoms v = only-false _ v false refl
 id-line (Rows m) v = only-false _ v (eqb 3 (7 + place m)) (list-kind m 3 (omega arith))
+id-line (Xyz x) v = only-false _ v (eqb 3 (12 + part x)) (part-kind x 3 (omega arith))
 id-line End v = only-false _ v false refl
 id-line Skipped v = only-false _ v false refl
 
@@ -258,3 +330,68 @@ id-told (Further h l) = flat-nil _
 
 pub ids-are : (b : Bytes) → idsIn b ≡ flat idOn (toldOf b)
 ids-are b = flat-flat _ (valueIn BlockId) (toldOf b) ∙ flat-same _ idOn id-told (toldOf b)
+
+-- THE GEOMETRY: MAX_XYZ, the factor, the rows of XYZ. A record of another kind gives none, and of this kind the three are told apart by their part
+module _ {A : Type 0} (n : ℕ) (placing : 12 ≤ n) (f : Bytes → List A) where
+  list-other : (m : ListOf) → eqb n (7 + place m) ≡ false
+  list-other m = ne-eqb n (7 + place m) (λ e. omega (arith, placing, few-lists m, e))
+
+  other-kind : (i : ℕ) → i < 12 → eqb n i ≡ false
+  other-kind i h = ne-eqb n i (λ e. omega (arith, placing, h, e))
+
+  geometry-line : (g : XyzOf → Bytes → List A) → ((x : XyzOf) (v : Bytes) → flat f (onlyIf (eqb n (12 + part x)) v) ≡ g x v)
+      → (h : Holds) (v : Bytes) → flat f (onlyIf (eqb n (kind h)) v) ≡ byGeometry [] (λ x. g x v) h
+  geometry-line g own (Text i) v = only-false f v (eqb n 0) (other-kind 0 (omega arith))
+  geometry-line g own Version v = only-false f v (eqb n 1) (other-kind 1 (omega arith))
+  geometry-line g own Formula v = only-false f v (eqb n 2) (other-kind 2 (omega arith))
+  geometry-line g own BlockId v = only-false f v (eqb n 3) (other-kind 3 (omega arith))
+  geometry-line g own Atoms v = only-false f v (eqb n 4) (other-kind 4 (omega arith))
+  geometry-line g own (Rows m) v = only-false f v (eqb n (7 + place m)) (list-other m)
+  geometry-line g own (Xyz x) v = own x v
+  geometry-line g own End v = only-false f v (eqb n 5) (other-kind 5 (omega arith))
+  geometry-line g own Skipped v = only-false f v (eqb n 6) (other-kind 6 (omega arith))
+
+greatest-line : (h : Holds) (v : Bytes) → flat (λ w. listed (number (onlyField (fields (strip w))))) (onlyIf (eqb 12 (kind h)) v) ≡ greatestBy h v
+greatest-line = geometry-line 12 (omega arith) _ (λ x v. byXyz (listed (number (onlyField (fields (strip v))))) [] [] x) own
+  where
+    own : (x : XyzOf) (v : Bytes) → flat (λ w. listed (number (onlyField (fields (strip w))))) (onlyIf (eqb 12 (12 + part x)) v) ≡ byXyz (listed (number (onlyField (fields (strip v))))) [] [] x
+    own MaxXyz v = only-true _ v
+    own XyzFactor v = only-false _ v false refl
+    own XyzRows v = only-false _ v false refl
+
+factor-line : (h : Holds) (v : Bytes) → flat (λ w. listed (factorShape (onlyField (fields (strip w))))) (onlyIf (eqb 13 (kind h)) v) ≡ factorBy h v
+factor-line = geometry-line 13 (omega arith) _ (λ x v. byXyz [] (listed (factorShape (onlyField (fields (strip v))))) [] x) own
+  where
+    own : (x : XyzOf) (v : Bytes) → flat (λ w. listed (factorShape (onlyField (fields (strip w))))) (onlyIf (eqb 13 (12 + part x)) v) ≡ byXyz [] (listed (factorShape (onlyField (fields (strip v))))) [] x
+    own MaxXyz v = only-false _ v false refl
+    own XyzFactor v = only-true _ v
+    own XyzRows v = only-false _ v false refl
+
+xyz-line : (h : Holds) (v : Bytes) → rowsBy xyzShape (onlyIf (eqb 14 (kind h)) v) ≡ xyzIn h v
+xyz-line = geometry-line 14 (omega arith) _ (λ x v. byXyz [] [] (rowOn xyzShape (fields (strip v))) x) own
+  where
+    own : (x : XyzOf) (v : Bytes) → rowsBy xyzShape (onlyIf (eqb 14 (12 + part x)) v) ≡ byXyz [] [] (rowOn xyzShape (fields (strip v))) x
+    own MaxXyz v = only-false _ v false refl
+    own XyzFactor v = only-false _ v false refl
+    own XyzRows v = only-true _ v
+
+greatest-told : (t : Told) → flat (λ w. listed (number (onlyField (fields (strip w))))) (valueIn (Xyz MaxXyz) t) ≡ greatestOn t
+greatest-told (Value h v) = greatest-line h v
+greatest-told (Further h l) = flat-nil _
+
+factor-told : (t : Told) → flat (λ w. listed (factorShape (onlyField (fields (strip w))))) (valueIn (Xyz XyzFactor) t) ≡ factorOn t
+factor-told (Value h v) = factor-line h v
+factor-told (Further h l) = flat-nil _
+
+xyz-told : (t : Told) → rowsBy xyzShape (lineIn (Xyz XyzRows) t) ≡ xyzOn t
+xyz-told (Value h v) = xyz-line h v
+xyz-told (Further h l) = xyz-line h l
+
+pub greatest-are : (b : Bytes) → greatestIn b ≡ firstOr 0 (flat greatestOn (toldOf b))
+greatest-are b = ap (firstOr 0) (flat-flat _ (valueIn (Xyz MaxXyz)) (toldOf b) ∙ flat-same _ greatestOn greatest-told (toldOf b))
+
+pub factor-are : (b : Bytes) → factorIn b ≡ firstOr (factor 0 0) (flat factorOn (toldOf b))
+factor-are b = ap (firstOr (factor 0 0)) (flat-flat _ (valueIn (Xyz XyzFactor)) (toldOf b) ∙ flat-same _ factorOn factor-told (toldOf b))
+
+pub xyz-are : (b : Bytes) → xyzRows b ≡ flat xyzOn (toldOf b)
+xyz-are b = flat-flat _ (lineIn (Xyz XyzRows)) (toldOf b) ∙ flat-same _ xyzOn xyz-told (toldOf b)

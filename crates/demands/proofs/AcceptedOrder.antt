@@ -14,15 +14,15 @@ use Rattle.lists.proofs.Bools.{torn, never, always, and-parts, and-both, or-par
 use Rattle.lists.proofs.ListLaws.{all-nil, all-append, all-parts, any-nil, any-one, any-append, any-imply}
 use Rattle.lists.proofs.PartLaws.{flat-nil, flat-one, flat-cons}
 use Rattle.format.specs.Bytes.{Bytes, within, gap}
-use Rattle.format.specs.Labels.{ListOf, Holds, Text, Version, Formula, BlockId, Atoms, Rows, End, Skipped, Label, label, known, misplaced, Line, Plain, Unparted, Labelled, lineOf, hasCode, endLine}
+use Rattle.format.specs.Labels.{ListOf, Holds, Text, Version, Formula, BlockId, Atoms, Rows, Xyz, End, Skipped, Label, label, known, misplaced, Line, Plain, Unparted, Labelled, lineOf, hasCode, endLine}
 use Rattle.format.specs.Rows.{Row, AtomRow}
 use Rattle.format.specs.Reading.{State, past, opened, over, atomCount}
-use Rattle.demands.specs.Accepted.{Value, Further, toldAs, runsOn, told, labelOn, labels}
-use Rattle.demands.proofs.AcceptedContents.{atomsHeld, rowsHeld, atomIn, atomOn, rowIn, rowOf}
+use Rattle.demands.specs.Accepted.{Told, Value, Further, toldAs, runsOn, told, labelOn, labels}
+use Rattle.demands.proofs.AcceptedContents.{atomsHeld, behindAtoms, atomIn, atomOn, rowIn, rowOf}
 use Rattle.demands.proofs.AcceptedSteps.{afterValue, afterFurther, afterAs, after, afters, along, placedAt, closedAt, complete, endAt, blank-plain}
 use Rattle.demands.proofs.AcceptedState.{after-running, after-seen}
 use Rattle.demands.proofs.AcceptedLines.{label-passed, placed, over-after, closed-behind, over-label}
-use Rattle.demands.proofs.AcceptedRows.{told-nil, told-after, count-after, rowsAt, rowTest}
+use Rattle.demands.proofs.AcceptedRows.{told-nil, told-after, count-after, rowTest}
 
 -- WHICH RECORDS HAVE ATOMS, WHICH HAVE ROWS
 atoms-none : (h : Holds) (b : Bytes) → atomsHeld h ≡ false → atomIn h b ≡ []
@@ -32,26 +32,29 @@ atoms-none Formula b e = refl
 atoms-none BlockId b e = refl
 atoms-none Atoms b e = torn true refl e
 atoms-none (Rows l) b e = refl
+atoms-none (Xyz x) b e = refl
 atoms-none End b e = refl
 atoms-none Skipped b e = refl
 
-rows-none : (l : ListOf) (h : Holds) (b : Bytes) → rowsHeld h ≡ false → rowIn l h b ≡ []
+rows-none : (l : ListOf) (h : Holds) (b : Bytes) → behindAtoms h ≡ false → rowIn l h b ≡ []
 rows-none l (Text i) b e = refl
 rows-none l Version b e = refl
 rows-none l Formula b e = refl
 rows-none l BlockId b e = refl
 rows-none l Atoms b e = refl
 rows-none l (Rows m) b e = torn true refl e
+rows-none l (Xyz x) b e = refl
 rows-none l End b e = refl
 rows-none l Skipped b e = refl
 
-rows-no-atoms : (h : Holds) → rowsHeld h ≡ true → atomsHeld h ≡ false
+rows-no-atoms : (h : Holds) → behindAtoms h ≡ true → atomsHeld h ≡ false
 rows-no-atoms (Text i) e = refl
 rows-no-atoms Version e = refl
 rows-no-atoms Formula e = refl
 rows-no-atoms BlockId e = refl
 rows-no-atoms Atoms e = torn false e refl
 rows-no-atoms (Rows l) e = refl
+rows-no-atoms (Xyz x) e = refl
 rows-no-atoms End e = refl
 rows-no-atoms Skipped e = refl
 
@@ -60,19 +63,20 @@ line-atoms h b Plain e = flat-one atomOn (Further h b) ∙ atoms-none h b e
 line-atoms h b Unparted e = flat-nil atomOn
 line-atoms h b (Labelled x v) e = flat-one atomOn (Value (x .holds) v) ∙ atoms-none (x .holds) v e
 
-line-rows : (l : ListOf) (h : Holds) (b : Bytes) (line : Line) → rowsHeld (runsOn h line) ≡ false → flat (rowOf l) (toldAs h b line) ≡ []
-line-rows l h b Plain e = flat-one (rowOf l) (Further h b) ∙ rows-none l h b e
-line-rows l h b Unparted e = flat-nil (rowOf l)
-line-rows l h b (Labelled x v) e = flat-one (rowOf l) (Value (x .holds) v) ∙ rows-none l (x .holds) v e
+line-given : {A : Type 0} (f : Told → List A) → ((h : Holds) (b : Bytes) → behindAtoms h ≡ false → (f (Value h b) ≡ []) × (f (Further h b) ≡ []))
+    → (h : Holds) (b : Bytes) (line : Line) → behindAtoms (runsOn h line) ≡ false → flat f (toldAs h b line) ≡ []
+line-given f none h b Plain e = flat-one f (Further h b) ∙ none h b e .1
+line-given f none h b Unparted e = flat-nil f
+line-given f none h b (Labelled x v) e = flat-one f (Value (x .holds) v) ∙ none (x .holds) v e .0
 
 -- WHAT THE KNOWN LABELS SAY of the records they start
 atoms-high : (l : Bytes) (x : Label) (v : Bytes) → lineOf l ≡ Labelled x v → (not (atomsHeld (x .holds)) || eqb (x .high) 6) ≡ true
 unfolding known all label
 atoms-high = label-passed (λ x. not (atomsHeld (x .holds)) || eqb (x .high) 6) refl refl
 
-rows-low : (l : Bytes) (x : Label) (v : Bytes) → lineOf l ≡ Labelled x v → (not (rowsHeld (x .holds)) || (leb 7 (x .low) && not (eqb (x .code) 0))) ≡ true
+rows-low : (l : Bytes) (x : Label) (v : Bytes) → lineOf l ≡ Labelled x v → (not (behindAtoms (x .holds)) || (leb 7 (x .low) && not (eqb (x .code) 0))) ≡ true
 unfolding known all label
-rows-low = label-passed (λ x. not (rowsHeld (x .holds)) || (leb 7 (x .low) && not (eqb (x .code) 0))) refl refl
+rows-low = label-passed (λ x. not (behindAtoms (x .holds)) || (leb 7 (x .low) && not (eqb (x .code) 0))) refl refl
 
 -- a label that is not unknown is among the seen
 pub noted-some : (p : Label → Bool) (x : Label) (v : Bytes) → eqb (x .code) 0 ≡ false → p x ≡ true → any p (labelOn (Labelled x v)) ≡ true
@@ -127,19 +131,19 @@ module _ (k : ℕ) where
 
   -- while a list's record runs a label of a list has been seen
   abbrev pub Follows : State → Type 0
-  Follows st = rowsHeld (st .running) ≡ true → late (st .seen) ≡ true
+  Follows st = behindAtoms (st .running) ≡ true → late (st .seen) ≡ true
 
-  follows-line : (st : State) (l : Bytes) (line : Line) → lineOf l ≡ line → Follows st → rowsHeld (runsOn (st .running) line) ≡ true → (late (labelOn line) || late (st .seen)) ≡ true
+  follows-line : (st : State) (l : Bytes) (line : Line) → lineOf l ≡ line → Follows st → behindAtoms (runsOn (st .running) line) ≡ true → (late (labelOn line) || late (st .seen)) ≡ true
   follows-line st l Plain e f h = or-right (late (labelOn Plain)) (late (st .seen)) (f h)
   follows-line st l Unparted e f h = or-right (late (labelOn Unparted)) (late (st .seen)) (f h)
   follows-line st l (Labelled x v) e f h =
-      let q : (leb 7 (x .low) ≡ true) × (not (eqb (x .code) 0) ≡ true) = and-parts (leb 7 (x .low)) (not (eqb (x .code) 0)) (or-other (not (rowsHeld (x .holds))) (leb 7 (x .low) && not (eqb (x .code) 0)) (rows-low l x v e) (ap not h)) in
+      let q : (leb 7 (x .low) ≡ true) × (not (eqb (x .code) 0) ≡ true) = and-parts (leb 7 (x .low)) (not (eqb (x .code) 0)) (or-other (not (behindAtoms (x .holds))) (leb 7 (x .low) && not (eqb (x .code) 0)) (rows-low l x v e) (ap not h)) in
       or-left (late (labelOn (Labelled x v))) (late (st .seen)) (noted-some (λ y. leb 7 (y .low)) x v (not-true (eqb (x .code) 0) (q .1)) (q .0))
 
   follows-after : (st : State) (l : Bytes) → Follows st → Follows (after k st l)
   follows-after st l f h =
       ap late (after-seen k st l) ∙ any-append (λ y. leb 7 (y .low)) (labelOn (lineOf l)) (st .seen)
-      ∙ follows-line st l (lineOf l) refl f (ap rowsHeld (sym (after-running k st l)) ∙ h)
+      ∙ follows-line st l (lineOf l) refl f (ap behindAtoms (sym (after-running k st l)) ∙ h)
 
   abbrev pub listedRow : State → Row → Bool
   listedRow st r = all (within 1 (atomCount st)) (r .atoms)
@@ -157,29 +161,39 @@ module _ (k : ℕ) where
       neither [] ys e = (refl, e)
       neither (x ∷ xs) ys e = let z : _≡_ {A = ℕ} 0 1 = cc in absurd (omega arith)
 
+  -- rows of any kind that stand behind the atoms, each tested against the number of atoms
+  module _ {A : Type 0} (f : Told → List A) (none : (h : Holds) (b : Bytes) → behindAtoms h ≡ false → (f (Value h b) ≡ []) × (f (Further h b) ≡ [])) (among : ℕ → A → Bool) where
+    abbrev givenAt : State → Bytes → List A
+    givenAt st b = flat f (toldAs (st .running) b (lineOf b))
+
+    pub given-listed : (st : State) (ls : List Bytes) → Follows st → along k (placed k) st ls ≡ true
+        → along k (λ s b. all (among (atomCount s)) (flat f (toldAs (s .running) b (lineOf b)))) st ls ≡ all (among (atomCount (afters k st ls))) (flat f (told (st .running) ls))
+    unfolding along afters
+    given-listed st [] g p = sym (ap (all (among (atomCount st))) (told-nil f (st .running)) ∙ all-nil (among (atomCount st)))
+    given-listed st (b ∷ ls) g p =
+        let q : (placed k st b ≡ true) × (along k (placed k) (after k st b) ls ≡ true) = and-parts (placed k st b) (along k (placed k) (after k st b) ls) p in
+        let n : ℕ = atomCount (afters k (after k st b) ls) in
+        ap (λ (t : Bool). all (among (atomCount st)) (givenAt st b) && t) (given-listed (after k st b) ls (follows-after st b g) (q .1))
+        ∙ ap (λ (t : Bool). t && all (among n) (flat f (told (after k st b .running) ls))) (here (behindAtoms (runsOn (st .running) (lineOf b))) refl (q .1))
+        ∙ sym (all-append (among n) (givenAt st b) (flat f (told (after k st b .running) ls)))
+        ∙ ap (all (among n)) (sym (told-after k f st b ls))
+      where
+        here : (t : Bool) → behindAtoms (runsOn (st .running) (lineOf b)) ≡ t → along k (placed k) (after k st b) ls ≡ true → all (among (atomCount st)) (givenAt st b) ≡ all (among (atomCount (afters k (after k st b) ls))) (givenAt st b)
+        here false e q =
+            let r : givenAt st b ≡ [] = line-given f none (st .running) b (lineOf b) e in
+            ap (all (among (atomCount st))) r ∙ all-nil (among (atomCount st)) ∙ sym (ap (all (among (atomCount (afters k (after k st b) ls)))) r ∙ all-nil (among (atomCount (afters k (after k st b) ls))))
+        here true e q =
+            let h : behindAtoms (after k st b .running) ≡ true = ap behindAtoms (after-running k st b) ∙ e in
+            let a : atomsHeld (after k st b .running) ≡ false = rows-no-atoms (after k st b .running) h in
+            let n : flat atomOn (told (after k st b .running) ls) ≡ [] = atoms-late (after k st b) ls (follows-after st b g h) a q in
+            let m : flat atomOn (toldAs (st .running) b (lineOf b)) ≡ [] = line-atoms (st .running) b (lineOf b) (rows-no-atoms (runsOn (st .running) (lineOf b)) e) in
+            let c : atomCount (afters k (after k st b) ls) ≡ atomCount st =
+            count-late (after k st b) ls n ∙ count-after k st b ∙ ap (λ (rs : List AtomRow). atomCount st + length rs) m ∙ add-zero (atomCount st) in
+            ap (λ (i : ℕ). all (among i) (givenAt st b)) (sym c)
+
   pub rows-listed : (l : ListOf) (st : State) (ls : List Bytes) → Follows st → along k (placed k) st ls ≡ true
       → along k (rowTest k l listedRow) st ls ≡ all (λ r. all (within 1 (atomCount (afters k st ls))) (r .atoms)) (flat (rowOf l) (told (st .running) ls))
-  unfolding along afters
-  rows-listed l st [] f p = sym (ap (all (listedRow st)) (told-nil (rowOf l) (st .running)) ∙ all-nil (listedRow st))
-  rows-listed l st (b ∷ ls) f p =
-      let q : (placed k st b ≡ true) × (along k (placed k) (after k st b) ls ≡ true) = and-parts (placed k st b) (along k (placed k) (after k st b) ls) p in
-      ap (λ (t : Bool). all (listedRow st) (rowsAt k l st b) && t) (rows-listed l (after k st b) ls (follows-after st b f) (q .1))
-      ∙ ap (λ (t : Bool). t && all (listedRow (afters k (after k st b) ls)) (flat (rowOf l) (told (after k st b .running) ls))) (here (rowsHeld (runsOn (st .running) (lineOf b))) refl (q .1))
-      ∙ sym (all-append (listedRow (afters k (after k st b) ls)) (rowsAt k l st b) (flat (rowOf l) (told (after k st b .running) ls)))
-      ∙ ap (all (listedRow (afters k (after k st b) ls))) (sym (told-after k (rowOf l) st b ls))
-    where
-      here : (t : Bool) → rowsHeld (runsOn (st .running) (lineOf b)) ≡ t → along k (placed k) (after k st b) ls ≡ true → all (listedRow st) (rowsAt k l st b) ≡ all (listedRow (afters k (after k st b) ls)) (rowsAt k l st b)
-      here false e q =
-          let r : rowsAt k l st b ≡ [] = line-rows l (st .running) b (lineOf b) e in
-          ap (all (listedRow st)) r ∙ all-nil (listedRow st) ∙ sym (ap (all (listedRow (afters k (after k st b) ls))) r ∙ all-nil (listedRow (afters k (after k st b) ls)))
-      here true e q =
-          let g : rowsHeld (after k st b .running) ≡ true = ap rowsHeld (after-running k st b) ∙ e in
-          let a : atomsHeld (after k st b .running) ≡ false = rows-no-atoms (after k st b .running) g in
-          let n : flat atomOn (told (after k st b .running) ls) ≡ [] = atoms-late (after k st b) ls (follows-after st b f g) a q in
-          let m : flat atomOn (toldAs (st .running) b (lineOf b)) ≡ [] = line-atoms (st .running) b (lineOf b) (rows-no-atoms (runsOn (st .running) (lineOf b)) e) in
-          let c : atomCount (afters k (after k st b) ls) ≡ atomCount st =
-          count-late (after k st b) ls n ∙ count-after k st b ∙ ap (λ (rs : List AtomRow). atomCount st + length rs) m ∙ add-zero (atomCount st) in
-          ap (λ (i : ℕ). all (λ r. all (within 1 i) (r .atoms)) (rowsAt k l st b)) (sym c)
+  rows-listed l = given-listed (rowOf l) (λ h b e. (rows-none l h b e, rows-none l h b e)) (λ n r. all (within 1 n) (r .atoms))
 
   -- THE LABELS SEEN
   seen-shuffle : (a b c : Bool) → (a || (b || c)) ≡ ((b || a) || c)
@@ -206,6 +220,7 @@ module _ (k : ℕ) where
   over-further BlockId st l o = torn false o refl
   over-further Atoms st l o = torn false o refl
   over-further (Rows m) st l o = torn false o refl
+  over-further (Xyz x) st l o = torn false o refl
   over-further End st l o = refl
   over-further Skipped st l o = torn false o refl
 
@@ -216,6 +231,7 @@ module _ (k : ℕ) where
   over-value BlockId st from v o = torn false o refl
   over-value Atoms st from v o = torn false o refl
   over-value (Rows m) st from v o = torn false o refl
+  over-value (Xyz x) st from v o = torn false o refl
   over-value End st from v o = refl
   over-value Skipped st from v o = torn false o refl
 

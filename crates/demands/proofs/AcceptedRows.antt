@@ -17,13 +17,13 @@ use Rattle.lists.proofs.ListLaws.{all-nil, all-one, all-same}
 use Rattle.lists.proofs.PartLaws.{flat-nil, flat-one, flat-append, all-map}
 use Rattle.lists.proofs.FoldLaws.{kept-nil, kept-again, kept-new, take-nil, take-bad, take-again, take-new}
 use Rattle.format.specs.Bytes.{Bytes, fields, strip}
-use Rattle.format.specs.Labels.{ListOf, Holds, Text, Version, Formula, BlockId, Atoms, Rows, End, Skipped, Line, Plain, Unparted, Labelled, lineOf}
+use Rattle.format.specs.Labels.{ListOf, Holds, Text, Version, Formula, BlockId, Atoms, Rows, Xyz, End, Skipped, Line, Plain, Unparted, Labelled, lineOf}
 use Rattle.format.specs.Rows.{Row, AtomRow, atomShape, rowShape}
 use Rattle.format.specs.Structure.{Atom, rowsOf, most, meets, clash}
 use Rattle.format.specs.Reading.{State, atomCount, ordered}
 use Rattle.format.proofs.OrderLaws.{rows-accept}
 use Rattle.demands.specs.Accepted.{Told, Value, Further, toldAs, runsOn, told, listed, rowOn, numbered, atomOf}
-use Rattle.demands.proofs.AcceptedContents.{same-list, list-same, atomIn, atomOn, sameList, rowIn, rowOf}
+use Rattle.demands.proofs.AcceptedContents.{holds-each, same-list, list-same, atomIn, atomOn, sameList, rowIn, rowOf}
 use Rattle.demands.proofs.AcceptedSteps.{after, afters, along, passing, rowPasses, atomPasses, listPasses, onLine, nextAtom, roomAt}
 use Rattle.demands.proofs.AcceptedState.{after-running, after-atoms, after-rows}
 
@@ -32,49 +32,37 @@ few-listed : {A : Type 0} (o : Option A) → length (listed o) ≤ 1
 few-listed none = omega arith
 few-listed (some a) = omega arith
 
-few-on : {A : Type 0} (shape : List Bytes → Option A) (fs : List Bytes) → length (rowOn shape fs) ≤ 1
+pub few-on : {A : Type 0} (shape : List Bytes → Option A) (fs : List Bytes) → length (rowOn shape fs) ≤ 1
 few-on shape [] = omega arith
 few-on shape (f ∷ fs) = few-listed (shape (f ∷ fs))
 
-few-told : {A : Type 0} (f : Told → List A) → ((t : Told) → length (f t) ≤ 1) → (h : Holds) (l : Bytes) (line : Line) → length (flat f (toldAs h l line)) ≤ 1
+pub few-told : {A : Type 0} (f : Told → List A) → ((t : Told) → length (f t) ≤ 1) → (h : Holds) (l : Bytes) (line : Line) → length (flat f (toldAs h l line)) ≤ 1
 few-told f few h l Plain = subst (λ (rs : List _). length rs ≤ 1) (sym (flat-one f (Further h l))) (few (Further h l))
 few-told f few h l Unparted = subst (λ (rs : List _). length rs ≤ 1) (sym (flat-nil f)) (omega arith)
 few-told f few h l (Labelled x v) = subst (λ (rs : List _). length rs ≤ 1) (sym (flat-one f (Value (x .holds) v))) (few (Value (x .holds) v))
 
 few-atom : (h : Holds) (l : Bytes) → length (atomIn h l) ≤ 1
-few-atom (Text i) l = omega arith
-few-atom Version l = omega arith
-few-atom Formula l = omega arith
-few-atom BlockId l = omega arith
-few-atom Atoms l = few-on atomShape (fields (strip l))
-few-atom (Rows m) l = omega arith
-few-atom End l = omega arith
-few-atom Skipped l = omega arith
+few-atom h l = holds-each (λ (rs : List AtomRow). length rs ≤ 1) [] [] [] (rowOn atomShape (fields (strip l))) (λ m. []) (omega arith) (omega arith) (omega arith) (few-on atomShape (fields (strip l))) (λ m. omega arith) h
 
 few-atoms : (t : Told) → length (atomOn t) ≤ 1
 few-atoms (Value h v) = few-atom h v
 few-atoms (Further h l) = few-atom h l
 
 few-row : (l : ListOf) (h : Holds) (b : Bytes) → length (rowIn l h b) ≤ 1
-few-row l (Text i) b = omega arith
-few-row l Version b = omega arith
-few-row l Formula b = omega arith
-few-row l BlockId b = omega arith
-few-row l Atoms b = omega arith
-few-row l (Rows m) b = by (sameList l m)
+few-row l h b =
+    holds-each (λ (rs : List Row). length rs ≤ 1) [] [] [] [] (λ m. elim (sameList l m) [ true ↦ map ordered (rowOn (rowShape m) (fields (strip b))) | false ↦ [] ]) (omega arith) (omega arith) (omega arith) (omega arith)
+    (λ m. by m (sameList l m)) h
   where
-    by : (s : Bool) → length {A = Row} (elim s as (λ (t : Bool). List Row) [ true ↦ map ordered (rowOn (rowShape m) (fields (strip b))) | false ↦ [] ]) ≤ 1
-    by true = subst (λ (n : ℕ). n ≤ 1) (sym (length-map (rowOn (rowShape m) (fields (strip b))) ordered)) (few-on (rowShape m) (fields (strip b)))
-    by false = omega arith
-few-row l End b = omega arith
-few-row l Skipped b = omega arith
+    by : (m : ListOf) (s : Bool) → length {A = Row} (elim s as (λ (t : Bool). List Row) [ true ↦ map ordered (rowOn (rowShape m) (fields (strip b))) | false ↦ [] ]) ≤ 1
+    by m true = subst (λ (n : ℕ). n ≤ 1) (sym (length-map (rowOn (rowShape m) (fields (strip b))) ordered)) (few-on (rowShape m) (fields (strip b)))
+    by m false = omega arith
 
 few-rows : (l : ListOf) (t : Told) → length (rowOf l t) ≤ 1
 few-rows l (Value h v) = few-row l h v
 few-rows l (Further h b) = few-row l h b
 
 -- A TEST OF THE ROW ON A LINE, IF IT HAS ONE
-row-all : {A : Type 0} (shape : List Bytes → Option A) (test : A → Bool) (fs : List Bytes) → rowPasses shape test fs ≡ all test (rowOn shape fs)
+pub row-all : {A : Type 0} (shape : List Bytes → Option A) (test : A → Bool) (fs : List Bytes) → rowPasses shape test fs ≡ all test (rowOn shape fs)
 row-all shape test [] = sym (all-nil test)
 row-all shape test (f ∷ fs) = by (shape (f ∷ fs))
   where
@@ -89,6 +77,7 @@ atom-all test Formula l = sym (all-nil test)
 atom-all test BlockId l = sym (all-nil test)
 atom-all test Atoms l = row-all atomShape test (fields (strip l))
 atom-all test (Rows m) l = sym (all-nil test)
+atom-all test (Xyz x) l = sym (all-nil test)
 atom-all test End l = sym (all-nil test)
 atom-all test Skipped l = sym (all-nil test)
 
@@ -168,6 +157,11 @@ module _ (k : ℕ) where
       ∙ ap (λ (rs : List AtomRow). st .body .atoms ++ map (atomOf k) rs) (sym (told-after atomOn st l ls))
 
   -- TESTS ALONG THE LINES, one from another, and one from those of all lists
+  pub along-same : (p q : State → Bytes → Bool) → ((st : State) (b : Bytes) → p st b ≡ q st b) → (st : State) (ls : List Bytes) → along k p st ls ≡ along k q st ls
+  unfolding along
+  along-same p q f st [] = refl
+  along-same p q f st (l ∷ ls) = ap (λ (t : Bool). t && along k p (after k st l) ls) (f st l) ∙ ap (λ (t : Bool). q st l && t) (along-same p q f (after k st l) ls)
+
   pub along-imply : (p q : State → Bytes → Bool) → ((st : State) (b : Bytes) → p st b ≡ true → q st b ≡ true) → (st : State) (ls : List Bytes) → along k p st ls ≡ true → along k q st ls ≡ true
   unfolding along
   along-imply p q f st [] h = refl
@@ -200,6 +194,7 @@ module _ (test own : ListOf → Row → Bool) (order : (l : ListOf) (r : Row) �
       by : (s : Bool) → sameList l m ≡ s → all (own l) (elim s as (λ (t : Bool). List Row) [ true ↦ map ordered (rowOn (rowShape m) (fields (strip b))) | false ↦ [] ]) ≡ true
       by true f = ap (λ (n : ListOf). all (own n) (map ordered (rowOn (rowShape m) (fields (strip b))))) (same-list l m f) ∙ sym (rows-all m (fields (strip b))) ∙ e
       by false f = all-nil (own l)
+  list-each l (Xyz x) b e = all-nil (own l)
   list-each l End b e = all-nil (own l)
   list-each l Skipped b e = all-nil (own l)
 
@@ -210,6 +205,7 @@ module _ (test own : ListOf → Row → Bool) (order : (l : ListOf) (r : Row) �
   list-every BlockId b f = refl
   list-every Atoms b f = refl
   list-every (Rows m) b f = rows-all m (fields (strip b)) ∙ ap (all (own m)) (sym (row-here m b)) ∙ f m
+  list-every (Xyz x) b f = refl
   list-every End b f = refl
   list-every Skipped b f = refl
 

@@ -12,14 +12,15 @@ use lib.Dec.{ltb}
 use borrow.Author.Tests.{le-ltb}
 use Rattle.lists.specs.Lists.{all, any}
 use Rattle.format.specs.Bytes.{Bytes, isIn}
+use Rattle.format.specs.Coordinates.{Geometry}
 use Rattle.format.specs.Structure.{Structure, wellFormed}
 use Rattle.format.specs.Reading.{strict, Span, Read, readBlock}
-use Rattle.format.specs.Table.{zeros, encode, textFine, textAt, sound, ReadResult, tableOf, readResult}
+use Rattle.format.specs.Table.{encode, textFine, textAt, sound, Lent, short, ample, ReadResult, readInto, readResult}
 use Rattle.format.specs.Writing.{WriteResult, writtenAs, formOf, writeResult}
-use Rattle.format.proofs.RefusedLaws.{zeros-long, long-read}
+use Rattle.format.proofs.RefusedLaws.{ample-long, long-read}
 use Rattle.demands.specs.WayBack.{TableBack}
 use Rattle.demands.specs.Accepted.{Obeys}
-use Rattle.demands.specs.ReadAs.{structureIn, spansIn}
+use Rattle.demands.specs.ReadAs.{structureIn, spansIn, geometryIn}
 use Rattle.demands.specs.ReadWritten.{formIn}
 use Rattle.demands.proofs.WayBack.{Fine, fine-structure}
 use Rattle.demands.proofs.WayBackSound.{encoded-sound, table-long, form-of}
@@ -30,9 +31,8 @@ use Rattle.demands.proofs.AcceptedSoundRows.{structure-fine}
 use Rattle.demands.proofs.AcceptedSoundTexts.{texts-fine, texts-ok}
 
 -- a block that is read obeys
-read-obeys : (k : ℕ) (b : Bytes) (s : Structure) (spans : List Span) → readBlock (strict k) b ≡ Read s spans → Obeys k b
-read-obeys k b s spans e =
-    accepted-iff k b (zeros 3856) zeros-long .0 (ap (λ (r : ReadResult). r .number) (long-read k b (zeros 3856) zeros-long ∙ ap (tableOf (drop 3856 (zeros 3856))) e))
+read-obeys : (k : ℕ) (b : Bytes) (s : Structure) (spans : List Span) (p : Geometry) → readBlock (strict k) b ≡ Read s spans p → Obeys k b
+read-obeys k b s spans p e = accepted-iff k b ample ample-long .0 (ap (λ (r : ReadResult). r .number) (long-read k b ample ample-long ∙ ap (readInto ample) e))
 
 -- THE TABLE of a block that obeys, with whatever stands beyond it
 module _ (k : ℕ) (one : 1 ≤ k) (b : Bytes) (y : Obeys k b) (beyond : List ℤ) where
@@ -57,11 +57,11 @@ module _ (k : ℕ) (one : 1 ≤ k) (b : Bytes) (y : Obeys k b) (beyond : List �
       rw (le-ltb (length table) 3856 long, table-sound, writeResult) (ap (λ (f : Bytes). writtenAs (ltb 32768 (length f)) (ltb (length buffer) (length f)) f buffer) form-is)
 
 -- OF EVERY ACCEPTED BLOCK the structure is well-formed, the texts are fine, and the table is sound
-pub read-sound : (k : ℕ) (b : Bytes) (s : Structure) (spans : List Span) → 1 ≤ k → readBlock (strict k) b ≡ Read s spans
+pub read-sound : (k : ℕ) (b : Bytes) (s : Structure) (spans : List Span) (p : Geometry) → 1 ≤ k → readBlock (strict k) b ≡ Read s spans p
     → (wellFormed k s ≡ true) × (all textFine (map (textAt b) spans) ≡ true) × (sound k (encode s spans) b ≡ true)
-read-sound k b s spans one e =
-    let y : Obeys k b = read-obeys k b s spans e in
-    let q : Read (structureIn k b) (spansIn b) ≡ Read s spans = sym (read-as k b y) ∙ e in
+read-sound k b s spans z one e =
+    let y : Obeys k b = read-obeys k b s spans z e in
+    let q : Read (structureIn k b) (spansIn b) (geometryIn b) ≡ Read s spans z = sym (read-as k b y) ∙ e in
     let p : structureIn k b ≡ s = cc in
     let r : spansIn b ≡ spans = cc in (
       ap (wellFormed k) (sym p) ∙ structure-fine k one b y,
@@ -70,22 +70,22 @@ read-sound k b s spans one e =
           ∙ ap (λ (l : List Span). sound k (encode (structureIn k b) l) b) (sym r) ∙ ap (λ (t : List ℤ). sound k t b) (sym (append-nil (encode (structureIn k b) (spansIn b)))) ∙ table-sound k one b y [],
     )
 
-module _ (k : ℕ) (b : Bytes) (t : List ℤ) (one : 1 ≤ k) (wide : 3856 ≤ length t) (accepted : readResult k b t .number ≡ 0) where
+module _ (k : ℕ) (b : Bytes) (t : Lent) (one : 1 ≤ k) (wide : short t ≡ false) (accepted : readResult k b t .number ≡ 0) where
   obeyed : Obeys k b
   obeyed = accepted-iff k b t wide .0 accepted
 
   abbrev given : List ℤ
-  given = readResult k b t .table
+  given = readResult k b t .after .table
 
-  given-is : given ≡ table k one b obeyed (drop 3856 t)
-  given-is = ap (λ (r : ReadResult). r .table) (table-is k b t wide obeyed)
+  given-is : given ≡ table k one b obeyed (drop 3856 (t .table))
+  given-is = ap (λ (r : ReadResult). r .after .table) (table-is k b t wide obeyed)
 
-  pub accepted-sound : sound k (readResult k b t .table) b ≡ true
-  accepted-sound = ap (λ (l : List ℤ). sound k l b) given-is ∙ table-sound k one b obeyed (drop 3856 t)
+  pub accepted-sound : sound k (readResult k b t .after .table) b ≡ true
+  accepted-sound = ap (λ (l : List ℤ). sound k l b) given-is ∙ table-sound k one b obeyed (drop 3856 (t .table))
 
   -- READ, THEN WRITTEN: the form of what the block was read as, unless it is too long for a block or for the buffer
-  pub read-written : (buffer : Bytes) → writeResult k (readResult k b t .table) b buffer ≡ writtenAs (ltb 32768 (length (formIn k b))) (ltb (length buffer) (length (formIn k b))) (formIn k b) buffer
-  read-written buffer = ap (λ (l : List ℤ). writeResult k l b buffer) given-is ∙ table-written k one b obeyed (drop 3856 t) buffer
+  pub read-written : (buffer : Bytes) → writeResult k (readResult k b t .after .table) b buffer ≡ writtenAs (ltb 32768 (length (formIn k b))) (ltb (length buffer) (length (formIn k b))) (formIn k b) buffer
+  read-written buffer = ap (λ (l : List ℤ). writeResult k l b buffer) given-is ∙ table-written k one b obeyed (drop 3856 (t .table)) buffer
 
   number-is : (long short : Bool) (form buffer : Bytes) → isIn (writtenAs long short form buffer .number) (0 ∷ 22 ∷ 23 ∷ []) ≡ true
   unfolding any
@@ -93,10 +93,10 @@ module _ (k : ℕ) (b : Bytes) (t : List ℤ) (one : 1 ≤ k) (wide : 3856 ≤ l
   number-is false true form buffer = refl
   number-is false false form buffer = refl
 
-  pub read-then-written : (buffer : Bytes) → isIn (writeResult k (readResult k b t .table) b buffer .number) (0 ∷ 22 ∷ 23 ∷ []) ≡ true
+  pub read-then-written : (buffer : Bytes) → isIn (writeResult k (readResult k b t .after .table) b buffer .number) (0 ∷ 22 ∷ 23 ∷ []) ≡ true
   read-then-written buffer = ap (λ (r : WriteResult). isIn (r .number) (0 ∷ 22 ∷ 23 ∷ [])) (read-written buffer) ∙ number-is (ltb 32768 (length (formIn k b))) (ltb (length buffer) (length (formIn k b))) (formIn k b) buffer
 
   -- READ, WRITTEN, READ AGAIN: the same numbers but for the places of the texts, where texts of the same content stand
-  pub read-written-read : (buffer : Bytes) (into : List ℤ) → k ≤ 103 → length (formOf (readResult k b t .table) b) ≤ 32768 → length (formOf (readResult k b t .table) b) ≤ length buffer → 3856 ≤ length into
-      → TableBack k (readResult k b t .table) b buffer into
-  read-written-read buffer into most fits room broad = table-back k given b buffer into most (omega (arith, ap length given-is, long k one b obeyed (drop 3856 t))) accepted-sound fits room broad
+  pub read-written-read : (buffer : Bytes) (into : Lent) → k ≤ 103 → length (formOf (readResult k b t .after .table) b) ≤ 32768 → length (formOf (readResult k b t .after .table) b) ≤ length buffer → short into ≡ false
+      → TableBack k (readResult k b t .after .table) b buffer into
+  read-written-read buffer into most fits room broad = table-back k given b buffer into most (omega (arith, ap length given-is, long k one b obeyed (drop 3856 (t .table)))) accepted-sound fits room broad

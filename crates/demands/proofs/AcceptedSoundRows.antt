@@ -20,7 +20,7 @@ use Rattle.lists.proofs.LexLaws.{Sides, less, equal, greater, sides, ltb-strict
 use Rattle.lists.proofs.SortLaws.{sort-length, sort-all, sort-pairs, sort-ascends}
 use Rattle.lists.proofs.FoldLaws.{kept-all, kept-apart}
 use Rattle.format.specs.Bytes.{Bytes, within, fields, strip}
-use Rattle.format.specs.Labels.{ListOf, Bonds, Charges, Radicals, Centres, Pairs, Holds, Text, Version, Formula, BlockId, Atoms, Rows, End, Skipped}
+use Rattle.format.specs.Labels.{ListOf, Bonds, Charges, Radicals, Centres, Pairs, Holds, Text, Version, Formula, BlockId, Atoms, Rows, Xyz, End, Skipped}
 use Rattle.format.specs.Rows.{Row, AtomRow, number, field, atomShape, rowShape}
 use Rattle.format.specs.Structure.{rowsOf, lists, most, arity, ranged, meets, rowBefore, atomOk, groupOk, rowOk, rowsOk, wellFormed}
 use Rattle.format.specs.Reading.{ordered}
@@ -98,6 +98,7 @@ module _ (l : ListOf) where
     line-alone BlockId b e = all-nil (alone l)
     line-alone Atoms b e = all-nil (alone l)
     line-alone (Rows m) b e = rows-alone m b (asks m b e)
+    line-alone (Xyz x) b e = all-nil (alone l)
     line-alone End b e = all-nil (alone l)
     line-alone Skipped b e = all-nil (alone l)
 
@@ -121,6 +122,7 @@ module _ (k : ℕ) (one : 1 ≤ k) where
     line-good BlockId b e = all-nil atomGood
     line-good Atoms b e = atoms-good b (asks b e)
     line-good (Rows m) b e = all-nil atomGood
+    line-good (Xyz x) b e = all-nil atomGood
     line-good End b e = all-nil atomGood
     line-good Skipped b e = all-nil atomGood
 
@@ -143,6 +145,7 @@ id-good (Value Formula v) = all-nil idGood
 id-good (Value BlockId v) = number-good (field 0 (fields (strip v))) _ refl
 id-good (Value Atoms v) = all-nil idGood
 id-good (Value (Rows m) v) = all-nil idGood
+id-good (Value (Xyz x) v) = all-nil idGood
 id-good (Value End v) = all-nil idGood
 id-good (Value Skipped v) = all-nil idGood
 id-good (Further h l) = all-nil idGood

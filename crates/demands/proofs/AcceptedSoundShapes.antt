@@ -21,10 +21,10 @@ use Rattle.format.proofs.SymbolLaws.{place-hit, place-miss, place-nil, isotope-
 use Rattle.demands.specs.Accepted.{atomFine, atomOf}
 
 -- NOTHING OR SOMETHING
-none-some : {A B : Type 0} (a : A) → none ≡ some a → B
+pub none-some : {A B : Type 0} (a : A) → none ≡ some a → B
 none-some a e = let z : _≡_ {A = ℕ} 0 1 = cc in absurd (omega arith)
 
-some-same : {A : Type 0} (a b : A) → some a ≡ some b → a ≡ b
+pub some-same : {A : Type 0} (a b : A) → some a ≡ some b → a ≡ b
 some-same a b e = cc
 
 -- something that a test lets through

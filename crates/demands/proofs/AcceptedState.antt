@@ -12,15 +12,16 @@ use Rattle.lists.proofs.Bools.{torn}
 use Rattle.lists.proofs.PartLaws.{flat-nil, flat-one}
 use Rattle.lists.proofs.FoldLaws.{kept-nil, kept-again, kept-new}
 use Rattle.format.specs.Bytes.{Bytes, fields, strip}
-use Rattle.format.specs.Labels.{ListOf, Bonds, Charges, Radicals, Centres, Pairs, Holds, Text, Version, Formula, BlockId, Atoms, Rows, End, Skipped, Label, Line, Plain, Unparted, Labelled, lineOf}
+use Rattle.format.specs.Labels.{ListOf, Bonds, Charges, Radicals, Centres, Pairs, XyzOf, MaxXyz, XyzFactor, XyzRows, Holds, Text, Version, Formula, BlockId, Atoms, Rows, Xyz, End, Skipped, Label, Line, Plain, Unparted, Labelled, lineOf}
 use Rattle.format.specs.Rows.{Row, AtomRow, number, field, atomShape, rowShape}
 use Rattle.format.specs.Formula.{Counted, formulaShape}
+use Rattle.format.specs.Coordinates.{xyzShape, Factor, factorShape, Geometry}
 use Rattle.format.specs.Structure.{Atom, Structure, rowsOf, meets, Entry}
-use Rattle.format.specs.Reading.{State, Prose, withBody, withFormula, withText, withAtoms, withId, withRows, ordered, opened}
+use Rattle.format.specs.Reading.{State, Prose, withBody, withFormula, withGeometry, withText, withAtoms, withId, withRows, ordered, opened, onlyField}
 use Rattle.demands.specs.Accepted.{toldAs, runsOn, labelOn, listed, rowOn, entriesAs, atomOf}
 use Rattle.demands.specs.ReadAs.{idAs}
-use Rattle.demands.proofs.AcceptedContents.{formulaHeld, idHeld, same-list, list-same, atomIn, atomOn, sameList, rowIn, rowOf, entriesIn, idIn}
-use Rattle.demands.proofs.AcceptedSteps.{addAll, addAtom, chosen, addRow, addFormula, addId, afterValue, afterFurther, afterAs, after}
+use Rattle.demands.proofs.AcceptedContents.{byGeometry, formulaHeld, idHeld, same-list, list-same, atomIn, atomOn, sameList, rowIn, rowOf, entriesIn, idIn}
+use Rattle.demands.proofs.AcceptedSteps.{addAll, addAtom, chosen, addRow, addFormula, addId, addGreatest, addFactor, addXyz, xyzAfter, xyzAfterFurther, afterValue, afterFurther, afterAs, after}
 
 -- WHAT NO LINE'S CONTENT CHANGES: the record that runs, the labels seen
 module _ {B : Type 0} (g : State → B) where
@@ -35,7 +36,27 @@ module _ {B : Type 0} (g : State → B) where
       by true = refl
       by false = h st (r ∷ rowsOf l (st .body))
 
-  module _ (text : (st : State) (i : ℕ) (t : Prose) → g (withText st i t) ≡ g st) (formula : (st : State) (es : List Entry) → g (withFormula st es) ≡ g st) (body : (st : State) (s : Structure) → g (withBody st s) ≡ g st) (k : ℕ) where
+  -- the geometry's three records
+  module _ (h : (st : State) (p : Geometry) → g (withGeometry st p) ≡ g st) where
+    pub xyz-same : (x : XyzOf) (st : State) (fs : List Bytes) → g (xyzAfter x st fs) ≡ g st
+    xyz-same MaxXyz st fs = by (number (onlyField fs))
+      where
+        by : (o : Option ℕ) → g (addGreatest st o) ≡ g st
+        by none = refl
+        by (some n) = h st _
+    xyz-same XyzFactor st fs = by (factorShape (onlyField fs))
+      where
+        by : (o : Option Factor) → g (addFactor st o) ≡ g st
+        by none = refl
+        by (some f) = h st _
+    xyz-same XyzRows st fs = all-same addXyz (λ s r. h s _) st (rowOn xyzShape fs)
+
+    pub xyz-further-same : (x : XyzOf) (st : State) (fs : List Bytes) → g (xyzAfterFurther x st fs) ≡ g st
+    xyz-further-same MaxXyz st fs = refl
+    xyz-further-same XyzFactor st fs = refl
+    xyz-further-same XyzRows st fs = all-same addXyz (λ s r. h s _) st (rowOn xyzShape fs)
+
+  module _ (text : (st : State) (i : ℕ) (t : Prose) → g (withText st i t) ≡ g st) (formula : (st : State) (es : List Entry) → g (withFormula st es) ≡ g st) (body : (st : State) (s : Structure) → g (withBody st s) ≡ g st) (placing : (st : State) (p : Geometry) → g (withGeometry st p) ≡ g st) (k : ℕ) where
     formula-same : (st : State) (o : Option (List Counted)) → g (addFormula k st o) ≡ g st
     formula-same st none = refl
     formula-same st (some cs) = formula st _
@@ -51,6 +72,7 @@ module _ {B : Type 0} (g : State → B) where
     value-same BlockId st from v = id-same st (number (field 0 (fields (strip v))))
     value-same Atoms st from v = all-same (addAtom k) (λ s r. body s _) st (rowOn atomShape (fields (strip v)))
     value-same (Rows l) st from v = all-same (addRow l) (row-same l (λ s rs. body s _)) st (map ordered (rowOn (rowShape l) (fields (strip v))))
+    value-same (Xyz x) st from v = xyz-same placing x st (fields (strip v))
     value-same End st from v = refl
     value-same Skipped st from v = refl
 
@@ -61,6 +83,7 @@ module _ {B : Type 0} (g : State → B) where
     further-same BlockId st l = refl
     further-same Atoms st l = all-same (addAtom k) (λ s r. body s _) st (rowOn atomShape (fields (strip l)))
     further-same (Rows m) st l = all-same (addRow m) (row-same m (λ s rs. body s _)) st (map ordered (rowOn (rowShape m) (fields (strip l))))
+    further-same (Xyz x) st l = xyz-further-same placing x st (fields (strip l))
     further-same End st l = refl
     further-same Skipped st l = refl
 
@@ -70,19 +93,19 @@ noted-is false x seen = refl
 
 module _ (k : ℕ) where
   running-as : (st : State) (l : Bytes) (line : Line) → afterAs k st l line .running ≡ runsOn (st .running) line
-  running-as st l Plain = further-same (λ (s : State). s .running) (λ s i t. refl) (λ s es. refl) (λ s b. refl) k (st .running) st l
+  running-as st l Plain = further-same (λ (s : State). s .running) (λ s i t. refl) (λ s es. refl) (λ s b. refl) (λ s p. refl) k (st .running) st l
   running-as st l Unparted = refl
-  running-as st l (Labelled x v) = value-same (λ (s : State). s .running) (λ s i t. refl) (λ s es. refl) (λ s b. refl) k (x .holds) (opened st x) _ v
+  running-as st l (Labelled x v) = value-same (λ (s : State). s .running) (λ s i t. refl) (λ s es. refl) (λ s b. refl) (λ s p. refl) k (x .holds) (opened st x) _ v
 
   pub after-running : (st : State) (l : Bytes) → after k st l .running ≡ runsOn (st .running) (lineOf l)
   unfolding after
   after-running st l = running-as st l (lineOf l)
 
   seen-as : (st : State) (l : Bytes) (line : Line) → afterAs k st l line .seen ≡ labelOn line ++ st .seen
-  seen-as st l Plain = further-same (λ (s : State). s .seen) (λ s i t. refl) (λ s es. refl) (λ s b. refl) k (st .running) st l
+  seen-as st l Plain = further-same (λ (s : State). s .seen) (λ s i t. refl) (λ s es. refl) (λ s b. refl) (λ s p. refl) k (st .running) st l
   seen-as st l Unparted = refl
   seen-as st l (Labelled x v) =
-      value-same (λ (s : State). s .seen) (λ s i t. refl) (λ s es. refl) (λ s b. refl) k (x .holds) (opened st x) _ v ∙ noted-is (eqb (x .code) 0) x (st .seen)
+      value-same (λ (s : State). s .seen) (λ s i t. refl) (λ s es. refl) (λ s b. refl) (λ s p. refl) k (x .holds) (opened st x) _ v ∙ noted-is (eqb (x .code) 0) x (st .seen)
 
   pub after-seen : (st : State) (l : Bytes) → after k st l .seen ≡ labelOn (lineOf l) ++ st .seen
   unfolding after
@@ -119,6 +142,7 @@ module _ (k : ℕ) where
   value-atoms BlockId st from v = id-atoms st (number (field 0 (fields (strip v)))) ∙ sym (append-nil (st .body .atoms))
   value-atoms Atoms st from v = add-atoms st (rowOn atomShape (fields (strip v)))
   value-atoms (Rows m) st from v = list-atoms m st (map ordered (rowOn (rowShape m) (fields (strip v)))) ∙ sym (append-nil (st .body .atoms))
+  value-atoms (Xyz x) st from v = xyz-same (λ (s : State). s .body .atoms) (λ s p. refl) x st (fields (strip v)) ∙ sym (append-nil (st .body .atoms))
   value-atoms End st from v = sym (append-nil (st .body .atoms))
   value-atoms Skipped st from v = sym (append-nil (st .body .atoms))
 
@@ -129,6 +153,7 @@ module _ (k : ℕ) where
   further-atoms BlockId st l = sym (append-nil (st .body .atoms))
   further-atoms Atoms st l = add-atoms st (rowOn atomShape (fields (strip l)))
   further-atoms (Rows m) st l = list-atoms m st (map ordered (rowOn (rowShape m) (fields (strip l)))) ∙ sym (append-nil (st .body .atoms))
+  further-atoms (Xyz x) st l = xyz-further-same (λ (s : State). s .body .atoms) (λ s p. refl) x st (fields (strip l)) ∙ sym (append-nil (st .body .atoms))
   further-atoms End st l = sym (append-nil (st .body .atoms))
   further-atoms Skipped st l = sym (append-nil (st .body .atoms))
 
@@ -230,6 +255,7 @@ module _ (l : ListOf) where
     value-rows BlockId st from v = id-kept st (number (field 0 (fields (strip v)))) ∙ none-kept st
     value-rows Atoms st from v = atoms-kept st (rowOn atomShape (fields (strip v)))
     value-rows (Rows m) st from v = add-rows m st (map ordered (rowOn (rowShape m) (fields (strip v))))
+    value-rows (Xyz x) st from v = xyz-same (λ (s : State). rowsOf l (s .body)) (λ s p. refl) x st (fields (strip v)) ∙ none-kept st
     value-rows End st from v = none-kept st
     value-rows Skipped st from v = none-kept st
 
@@ -240,6 +266,7 @@ module _ (l : ListOf) where
     further-rows BlockId st b = none-kept st
     further-rows Atoms st b = atoms-kept st (rowOn atomShape (fields (strip b)))
     further-rows (Rows m) st b = add-rows m st (map ordered (rowOn (rowShape m) (fields (strip b))))
+    further-rows (Xyz x) st b = xyz-further-same (λ (s : State). rowsOf l (s .body)) (λ s p. refl) x st (fields (strip b)) ∙ none-kept st
     further-rows End st b = none-kept st
     further-rows Skipped st b = none-kept st
 
@@ -269,6 +296,7 @@ module _ (k : ℕ) where
   value-formula BlockId st from v e = (id-formula st (number (field 0 (fields (strip v)))), refl)
   value-formula Atoms st from v e = (all-same (λ (s : State). s .formula) (addAtom k) (λ s r. refl) st (rowOn atomShape (fields (strip v))), refl)
   value-formula (Rows m) st from v e = (all-same (λ (s : State). s .formula) (addRow m) (row-same (λ (s : State). s .formula) m (λ s rs. refl)) st (map ordered (rowOn (rowShape m) (fields (strip v)))), refl)
+  value-formula (Xyz x) st from v e = (xyz-same (λ (s : State). s .formula) (λ s p. refl) x st (fields (strip v)), refl)
   value-formula End st from v e = (refl, refl)
   value-formula Skipped st from v e = (refl, refl)
 
@@ -279,6 +307,7 @@ module _ (k : ℕ) where
   value-entries BlockId st from v n e = torn false e refl
   value-entries Atoms st from v n e = torn false e refl
   value-entries (Rows m) st from v n e = torn false e refl
+  value-entries (Xyz x) st from v n e = torn false e refl
   value-entries End st from v n e = torn false e refl
   value-entries Skipped st from v n e = torn false e refl
 
@@ -289,6 +318,7 @@ module _ (k : ℕ) where
   further-formula BlockId st l = refl
   further-formula Atoms st l = all-same (λ (s : State). s .formula) (addAtom k) (λ s r. refl) st (rowOn atomShape (fields (strip l)))
   further-formula (Rows m) st l = all-same (λ (s : State). s .formula) (addRow m) (row-same (λ (s : State). s .formula) m (λ s rs. refl)) st (map ordered (rowOn (rowShape m) (fields (strip l))))
+  further-formula (Xyz x) st l = xyz-further-same (λ (s : State). s .formula) (λ s p. refl) x st (fields (strip l))
   further-formula End st l = refl
   further-formula Skipped st l = refl
 
@@ -323,6 +353,7 @@ module _ (k : ℕ) where
   value-quiet-id BlockId st from v e = torn true refl e
   value-quiet-id Atoms st from v e = (atoms-id st (rowOn atomShape (fields (strip v))), refl)
   value-quiet-id (Rows m) st from v e = (list-id m st (map ordered (rowOn (rowShape m) (fields (strip v)))), refl)
+  value-quiet-id (Xyz x) st from v e = (xyz-same (λ (s : State). s .body .id) (λ s p. refl) x st (fields (strip v)), refl)
   value-quiet-id End st from v e = (refl, refl)
   value-quiet-id Skipped st from v e = (refl, refl)
 
@@ -333,6 +364,7 @@ module _ (k : ℕ) where
   value-id BlockId st from v n e = add-id st (number (field 0 (fields (strip v)))) n
   value-id Atoms st from v n e = torn false e refl
   value-id (Rows m) st from v n e = torn false e refl
+  value-id (Xyz x) st from v n e = torn false e refl
   value-id End st from v n e = torn false e refl
   value-id Skipped st from v n e = torn false e refl
 
@@ -343,6 +375,7 @@ module _ (k : ℕ) where
   further-id BlockId st l = refl
   further-id Atoms st l = atoms-id st (rowOn atomShape (fields (strip l)))
   further-id (Rows m) st l = list-id m st (map ordered (rowOn (rowShape m) (fields (strip l))))
+  further-id (Xyz x) st l = xyz-further-same (λ (s : State). s .body .id) (λ s p. refl) x st (fields (strip l))
   further-id End st l = refl
   further-id Skipped st l = refl
 
@@ -360,3 +393,49 @@ module _ (k : ℕ) where
 
   pub texts-list : (m : ListOf) (st : State) (rs : List Row) → addAll (addRow m) st rs .texts ≡ st .texts
   texts-list m st rs = all-same (λ (s : State). s .texts) (addRow m) (row-same (λ (s : State). s .texts) m (λ s qs. refl)) st rs
+
+  pub texts-xyz : (x : XyzOf) (st : State) (fs : List Bytes) → xyzAfter x st fs .texts ≡ st .texts
+  texts-xyz x st fs = xyz-same (λ (s : State). s .texts) (λ s p. refl) x st fs
+
+  pub texts-xyz-further : (x : XyzOf) (st : State) (fs : List Bytes) → xyzAfterFurther x st fs .texts ≡ st .texts
+  texts-xyz-further x st fs = xyz-further-same (λ (s : State). s .texts) (λ s p. refl) x st fs
+
+-- THE GEOMETRY, which its three records alone give
+module _ (k : ℕ) where
+  formula-geometry : (st : State) (o : Option (List Counted)) → addFormula k st o .geometry ≡ st .geometry
+  formula-geometry st none = refl
+  formula-geometry st (some cs) = refl
+
+  id-geometry : (st : State) (o : Option ℕ) → addId st o .geometry ≡ st .geometry
+  id-geometry st none = refl
+  id-geometry st (some n) = refl
+
+  atoms-geometry : (st : State) (rs : List AtomRow) → addAll (addAtom k) st rs .geometry ≡ st .geometry
+  atoms-geometry st rs = all-same (λ (s : State). s .geometry) (addAtom k) (λ s r. refl) st rs
+
+  list-geometry : (m : ListOf) (st : State) (rs : List Row) → addAll (addRow m) st rs .geometry ≡ st .geometry
+  list-geometry m st rs = all-same (λ (s : State). s .geometry) (addRow m) (row-same (λ (s : State). s .geometry) m (λ s qs. refl)) st rs
+
+  -- any other record leaves it, so that what is said of it after a line is said by the three
+  module _ {B : Type 0} (g : Geometry → B) where
+    pub value-geometry : (h : Holds) (st : State) (from : ℕ) (v : Bytes) → g (afterValue k h st from v .geometry) ≡ byGeometry (g (st .geometry)) (λ x. g (xyzAfter x st (fields (strip v)) .geometry)) h
+    value-geometry (Text i) st from v = refl
+    value-geometry Version st from v = refl
+    value-geometry Formula st from v = ap g (formula-geometry st (formulaShape (strip v)))
+    value-geometry BlockId st from v = ap g (id-geometry st (number (field 0 (fields (strip v)))))
+    value-geometry Atoms st from v = ap g (atoms-geometry st (rowOn atomShape (fields (strip v))))
+    value-geometry (Rows m) st from v = ap g (list-geometry m st (map ordered (rowOn (rowShape m) (fields (strip v)))))
+    value-geometry (Xyz x) st from v = refl
+    value-geometry End st from v = refl
+    value-geometry Skipped st from v = refl
+
+    pub further-geometry : (h : Holds) (st : State) (l : Bytes) → g (afterFurther k h st l .geometry) ≡ byGeometry (g (st .geometry)) (λ x. g (xyzAfterFurther x st (fields (strip l)) .geometry)) h
+    further-geometry (Text i) st l = refl
+    further-geometry Version st l = refl
+    further-geometry Formula st l = refl
+    further-geometry BlockId st l = refl
+    further-geometry Atoms st l = ap g (atoms-geometry st (rowOn atomShape (fields (strip l))))
+    further-geometry (Rows m) st l = ap g (list-geometry m st (map ordered (rowOn (rowShape m) (fields (strip l)))))
+    further-geometry (Xyz x) st l = refl
+    further-geometry End st l = refl
+    further-geometry Skipped st l = refl

@@ -1,8 +1,8 @@
--- A line goes on exactly when it passes twelve tests, and the state after it is the same whatever was tested: so a reading is accepted exactly when every line
+-- A line goes on exactly when it passes its tests, and the state after it is the same whatever was tested: so a reading is accepted exactly when every line
 -- passes and END was reached. The first stage of "accepted exactly when"; document 01, "Refusal numbers". Assumes nothing.
 use Prim.Native.Nat.{ℕ, suc, _+_, _-_}
 use mathlib.Core.Path.{_≡_, refl, sym, ap, _∙_}
-use mathlib.Core.Bool.{Bool, true, false, not, _&&_, _||_, and-true, or-false}
+use mathlib.Core.Bool.{Bool, true, false, not, _&&_, _||_, or-false, and-true}
 use mathlib.Core.Option.{Option, none, some}
 use mathlib.Core.List.{List, [], _∷_, _++_, map}
 use native.Mathlib.Omega.{arith}
@@ -13,15 +13,16 @@ use Rattle.lists.specs.Lists.{isNil, all, any, pairs}
 use Rattle.lists.proofs.Bools.{and-left-false, and-shuffle}
 use Rattle.lists.proofs.ListLaws.{all-parts}
 use Rattle.format.specs.Bytes.{Bytes, within, gap, hash, headIs, allowed, fields, strip}
-use Rattle.format.specs.Labels.{ListOf, Holds, Text, Version, Formula, BlockId, Atoms, Rows, End, Skipped, Label, misplaced, Line, Plain, Unparted, Labelled, lineOf, titleLine}
+use Rattle.format.specs.Labels.{ListOf, XyzOf, MaxXyz, XyzFactor, XyzRows, Holds, Text, Version, Formula, BlockId, Atoms, Rows, Xyz, End, Skipped, Label, misplaced, Line, Plain, Unparted, Labelled, lineOf, titleLine}
 use Rattle.format.specs.Rows.{Row, AtomRow, number, field, atomShape, rowShape}
 use Rattle.format.specs.Formula.{Counted, formulaShape}
+use Rattle.format.specs.Coordinates.{XyzRow, xyzShape, Factor, factorShape, geometry, exceeds}
 use Rattle.format.specs.Structure.{unknown, massOk, rowsOf, most, ranged, meets, clash, entriesOf, agree}
-use Rattle.format.specs.Reading.{strict, State, prose, Turn, Go, Stop, if_stop_else_, withBody, withFormula, withText, past, withAtoms, withId, withRows, atomCount, lacks, ordered, extended, atomTurn, joined, joinTurn, rowTurn, formulaTurn, versionTurn, idValue, idTurn, atomLine, rowLine, endTurn, valueTurn, blankOr, furtherTurn, over, opened, lineTurn, lineStep, Outcome, Accepted, Refused, ending, readLines}
+use Rattle.format.specs.Reading.{strict, State, prose, Turn, Go, Stop, if_stop_else_, withBody, withFormula, withGeometry, withText, past, withAtoms, withId, withRows, atomCount, lacks, ordered, extended, atomTurn, joined, joinTurn, rowTurn, formulaTurn, versionTurn, idValue, idTurn, onlyField, greatestTurn, factorTurn, xyzTurn, atomLine, rowLine, xyzLine, xyzValue, partly, endTurn, valueTurn, blankOr, xyzFurther, furtherTurn, over, opened, lineTurn, lineStep, Outcome, Accepted, Refused, ending, readLines}
 use Rattle.format.proofs.ByteLaws.{gap-small}
 use Rattle.format.proofs.ReadingLaws.{read-go, read-stop, read-end}
 use Rattle.demands.specs.Accepted.{listed, rowOn, entriesAs, fits, rowFits, atomFine, rowFine, formulaFine, versionFine, idFine, valueRule, furtherRule, atomOf, unparted}
-use Rattle.demands.proofs.AcceptedContents.{formulaHeld}
+use Rattle.demands.proofs.AcceptedContents.{byHolds, byGeometry, byXyz, formulaHeld}
 
 -- THE STATE AFTER A LINE, whatever was tested
 abbrev pub addAll : {A : Type 0} → (State → A → State) → State → List A → State
@@ -46,6 +47,27 @@ abbrev pub addId : State → Option ℕ → State
 addId st none = st
 addId st (some n) = withBody st (withId n (st .body))
 
+abbrev pub addGreatest : State → Option ℕ → State
+addGreatest st none = st
+addGreatest st (some n) = withGeometry st (geometry n (st .geometry .scale) (st .geometry .rows))
+
+abbrev pub addFactor : State → Option Factor → State
+addFactor st none = st
+addFactor st (some f) = withGeometry st (geometry (st .geometry .greatest) f (st .geometry .rows))
+
+abbrev pub addXyz : State → XyzRow → State
+addXyz st r = withGeometry st (geometry (st .geometry .greatest) (st .geometry .scale) (r ∷ st .geometry .rows))
+
+abbrev pub xyzAfter : XyzOf → State → List Bytes → State
+xyzAfter MaxXyz st fs = addGreatest st (number (onlyField fs))
+xyzAfter XyzFactor st fs = addFactor st (factorShape (onlyField fs))
+xyzAfter XyzRows st fs = addAll addXyz st (rowOn xyzShape fs)
+
+abbrev pub xyzAfterFurther : XyzOf → State → List Bytes → State
+xyzAfterFurther MaxXyz st fs = st
+xyzAfterFurther XyzFactor st fs = st
+xyzAfterFurther XyzRows st fs = addAll addXyz st (rowOn xyzShape fs)
+
 abbrev pub afterValue : (k : ℕ) → Holds → State → (from : ℕ) → Bytes → State
 afterValue k (Text i) st from v = withText st i (prose from v)
 afterValue k Version st from v = st
@@ -53,6 +75,7 @@ afterValue k Formula st from v = addFormula k st (formulaShape (strip v))
 afterValue k BlockId st from v = addId st (number (field 0 (fields (strip v))))
 afterValue k Atoms st from v = addAll (addAtom k) st (rowOn atomShape (fields (strip v)))
 afterValue k (Rows l) st from v = addAll (addRow l) st (map ordered (rowOn (rowShape l) (fields (strip v))))
+afterValue k (Xyz x) st from v = xyzAfter x st (fields (strip v))
 afterValue k End st from v = st
 afterValue k Skipped st from v = st
 
@@ -63,6 +86,7 @@ afterFurther k Formula st l = st
 afterFurther k BlockId st l = st
 afterFurther k Atoms st l = addAll (addAtom k) st (rowOn atomShape (fields (strip l)))
 afterFurther k (Rows r) st l = addAll (addRow r) st (map ordered (rowOn (rowShape r) (fields (strip l))))
+afterFurther k (Xyz x) st l = xyzAfterFurther x st (fields (strip l))
 afterFurther k End st l = st
 afterFurther k Skipped st l = st
 
@@ -78,7 +102,7 @@ unfoldable pub afters : (k : ℕ) → State → List Bytes → State
 afters k st [] = st
 afters k st (l ∷ ls) = afters k (after k st l) ls
 
--- THE TWELVE TESTS OF A LINE
+-- THE TESTS OF A LINE
 abbrev pub passing : {A : Type 0} → (A → Bool) → Option A → Bool
 passing test none = true
 passing test (some a) = test a
@@ -88,24 +112,13 @@ rowPasses shape test [] = true
 rowPasses shape test (f ∷ fs) = passing test (shape (f ∷ fs))
 
 abbrev pub atomPasses : (AtomRow → Bool) → Holds → Bytes → Bool
-atomPasses test (Text i) l = true
-atomPasses test Version l = true
-atomPasses test Formula l = true
-atomPasses test BlockId l = true
-atomPasses test Atoms l = rowPasses atomShape test (fields (strip l))
-atomPasses test (Rows m) l = true
-atomPasses test End l = true
-atomPasses test Skipped l = true
+atomPasses test h l = byHolds true true true (rowPasses atomShape test (fields (strip l))) (λ m. true) h
 
 abbrev pub listPasses : (ListOf → Row → Bool) → Holds → Bytes → Bool
-listPasses test (Text i) l = true
-listPasses test Version l = true
-listPasses test Formula l = true
-listPasses test BlockId l = true
-listPasses test Atoms l = true
-listPasses test (Rows m) l = rowPasses (rowShape m) (test m) (fields (strip l))
-listPasses test End l = true
-listPasses test Skipped l = true
+listPasses test h l = byHolds true true true true (λ m. rowPasses (rowShape m) (test m) (fields (strip l))) h
+
+abbrev pub xyzPasses : (XyzRow → Bool) → Holds → Bytes → Bool
+xyzPasses test h l = byGeometry true (byXyz true true (rowPasses xyzShape test (fields (strip l)))) h
 
 -- of MOLFORM's value the reading asks that the machine reads a fine formula, of any value its own rule
 abbrev pub formulaPasses : (k : ℕ) → Bytes → Bool
@@ -145,11 +158,20 @@ apartAt st l r = not (any (clash l (ordered r)) (rowsOf l (st .body)))
 abbrev pub heldAt : State → ListOf → Row → Bool
 heldAt st l r = any (meets l (ordered r)) (rowsOf l (st .body)) || not (leb (most l) (length (rowsOf l (st .body))))
 
+abbrev pub xyzListedAt : State → XyzRow → Bool
+xyzListedAt st r = within 1 (atomCount st) (r .atom)
+
+abbrev pub xyzAboveAt : State → XyzRow → Bool
+xyzAboveAt st r = not (any (λ q. leb (r .atom) (q .atom)) (st .geometry .rows))
+
 abbrev pub present : State → Bool
 present st = not (any (lacks (st .seen)) (2 ∷ 3 ∷ 4 ∷ 5 ∷ []) || eqb (atomCount st) 0)
 
+abbrev pub together : State → Bool
+together st = not (partly (st .seen) (14 ∷ 15 ∷ 16 ∷ []))
+
 abbrev pub complete : State → Bool
-complete st = present st && agree (st .formula) (entriesOf (st .body .atoms))
+complete st = present st && (agree (st .formula) (entriesOf (st .body .atoms)) && (together st && not (exceeds (st .geometry))))
 
 abbrev pub endAt : State → Line → Bool
 endAt st Plain = true
@@ -163,7 +185,9 @@ rowTests k st l line =
     && (onLine (atomPasses (roomAt st)) (atomPasses (roomAt st)) (st .running) l line
     && (onLine (listPasses (listedAt st)) (listPasses (listedAt st)) (st .running) l line
     && (onLine (listPasses (apartAt st)) (listPasses (apartAt st)) (st .running) l line
-    && (onLine (listPasses (heldAt st)) (listPasses (heldAt st)) (st .running) l line && endAt st line))))
+    && (onLine (listPasses (heldAt st)) (listPasses (heldAt st)) (st .running) l line
+    && (onLine (xyzPasses (xyzListedAt st)) (xyzPasses (xyzListedAt st)) (st .running) l line
+    && (onLine (xyzPasses (xyzAboveAt st)) (xyzPasses (xyzAboveAt st)) (st .running) l line && endAt st line))))))
 
 abbrev lineTests : (k : ℕ) → State → Bytes → Line → Bool
 lineTests k st l line = not (unparted line) && (placedAt st line && (closedAt st l && (onLine (valueTest k) (furtherRule k) (st .running) l line && rowTests k st l line)))
@@ -203,9 +227,8 @@ row-shuffle true true true false e = refl
 row-shuffle true true true true true = refl
 row-shuffle true true true true false = refl
 
-end-shuffle : (a b c : Bool) → (a && (b && (c && true))) ≡ (b && (a && c))
-end-shuffle true true true = refl
-end-shuffle true true false = refl
+end-shuffle : (a b c : Bool) → (a && (b && c)) ≡ (b && (a && c))
+end-shuffle true true c = refl
 end-shuffle true false c = refl
 end-shuffle false true c = refl
 end-shuffle false false c = refl
@@ -268,37 +291,66 @@ module _ (k : ℕ) (st : State) where
   unfolding idTurn
   id-gone fs = id-value (isNil (drop 1 fs)) (number (field 0 fs))
 
+  greatest-gone : (o : Option ℕ) → goneTo (greatestTurn st o) ≡ when (fits (λ n. true) o && true) (addGreatest st o)
+  unfolding greatestTurn
+  greatest-gone none = refl
+  greatest-gone (some n) = refl
+
+  factor-gone : (o : Option Factor) → goneTo (factorTurn st o) ≡ when (fits (λ f. not (eqb (f .digits) 0)) o && true) (addFactor st o)
+  unfolding factorTurn
+  factor-gone none = refl
+  factor-gone (some f) = if-so (eqb (f .digits) 0) true 10 _ (addFactor st (some f)) refl
+
+  xyz-gone : (o : Option XyzRow) → goneTo (xyzTurn st o) ≡ when (fits (λ r. true) o && (passing (xyzListedAt st) o && (passing (xyzAboveAt st) o && true))) (addAll addXyz st (listed o))
+  unfolding xyzTurn
+  xyz-gone none = refl
+  xyz-gone (some r) =
+      if-not (xyzListedAt st r) _ 11 _ _ (if-so (any (λ q. leb (r .atom) (q .atom)) (st .geometry .rows)) true 13 _ (addXyz st r) refl)
+
+  xyzs-gone : (fs : List Bytes) → goneTo (xyzLine st fs) ≡ when (rowFits xyzShape (λ r. true) fs && (rowPasses xyzShape (xyzListedAt st) fs && (rowPasses xyzShape (xyzAboveAt st) fs && true))) (addAll addXyz st (rowOn xyzShape fs))
+  unfolding xyzLine
+  xyzs-gone [] = refl
+  xyzs-gone (f ∷ fs) = xyz-gone (xyzShape (f ∷ fs))
+
   end-gone : (fs : List Bytes) → goneTo (endTurn (strict k) st fs) ≡ when (isNil fs && complete st) st
   unfolding endTurn
   end-gone fs =
       if-so (any (lacks (st .seen)) (2 ∷ 3 ∷ 4 ∷ 5 ∷ []) || eqb (atomCount st) 0) _ 8 _ _
-      (if-not (isNil fs) _ 9 _ _ (if-not (agree (st .formula) (entriesOf (st .body .atoms))) true 15 (Go st) st refl))
-      ∙ ap (λ (t : Bool). when t st) (end-shuffle (present st) (isNil fs) (agree (st .formula) (entriesOf (st .body .atoms))))
+      (if-not (isNil fs) _ 9 _ _
+      (if-not (agree (st .formula) (entriesOf (st .body .atoms))) _ 15 _ _
+      (if-so (partly (st .seen) (14 ∷ 15 ∷ 16 ∷ [])) _ 41 _ _ (if-so (exceeds (st .geometry)) true 42 (Go st) st refl ∙ ap (λ (t : Bool). when t st) (and-true (not (exceeds (st .geometry))))))))
+      ∙ ap (λ (t : Bool). when t st) (end-shuffle (present st) (isNil fs) (agree (st .formula) (entriesOf (st .body .atoms)) && (together st && not (exceeds (st .geometry)))))
 
   blank-gone : (n : ℕ) (l : Bytes) → goneTo (blankOr n st l) ≡ when (all gap l && true) st
   unfolding blankOr
   blank-gone n l = if-not (all gap l) true n (Go st) st refl
 
   -- a further line of a record, and a value
-  further-gone : (h : Holds) (l : Bytes) → goneTo (furtherTurn (strict k) h st l) ≡ when ((not (over h) || all gap l) && (furtherRule k h l && (atomPasses (nextAtom st) h l && (atomPasses (roomAt st) h l && (listPasses (listedAt st) h l && (listPasses (apartAt st) h l && (listPasses (heldAt st) h l && true))))))) (afterFurther k h st l)
-  unfolding furtherTurn
+  further-gone : (h : Holds) (l : Bytes) → goneTo (furtherTurn (strict k) h st l) ≡ when ((not (over h) || all gap l) && (furtherRule k h l && (atomPasses (nextAtom st) h l && (atomPasses (roomAt st) h l && (listPasses (listedAt st) h l && (listPasses (apartAt st) h l && (listPasses (heldAt st) h l && (xyzPasses (xyzListedAt st) h l && (xyzPasses (xyzAboveAt st) h l && true))))))))) (afterFurther k h st l)
+  unfolding furtherTurn xyzFurther
   further-gone (Text i) l = refl
   further-gone Version l = blank-gone 9 (strip l)
   further-gone Formula l = blank-gone 9 (strip l)
   further-gone BlockId l = blank-gone 9 (strip l)
   further-gone Atoms l = atoms-gone (fields (strip l))
   further-gone (Rows r) l = rows-gone r (fields (strip l))
+  further-gone (Xyz MaxXyz) l = blank-gone 9 (strip l)
+  further-gone (Xyz XyzFactor) l = blank-gone 9 (strip l)
+  further-gone (Xyz XyzRows) l = xyzs-gone (fields (strip l))
   further-gone End l = blank-gone 17 l
   further-gone Skipped l = refl
 
-  value-gone : (h : Holds) (from : ℕ) (v : Bytes) → goneTo (valueTurn (strict k) h st from v) ≡ when (valueTest k h v && (atomPasses (nextAtom st) h v && (atomPasses (roomAt st) h v && (listPasses (listedAt st) h v && (listPasses (apartAt st) h v && (listPasses (heldAt st) h v && (not (over h) || complete st))))))) (afterValue k h st from v)
-  unfolding valueTurn
+  value-gone : (h : Holds) (from : ℕ) (v : Bytes) → goneTo (valueTurn (strict k) h st from v) ≡ when (valueTest k h v && (atomPasses (nextAtom st) h v && (atomPasses (roomAt st) h v && (listPasses (listedAt st) h v && (listPasses (apartAt st) h v && (listPasses (heldAt st) h v && (xyzPasses (xyzListedAt st) h v && (xyzPasses (xyzAboveAt st) h v && (not (over h) || complete st))))))))) (afterValue k h st from v)
+  unfolding valueTurn xyzValue
   value-gone (Text i) from v = refl
   value-gone Version from v = version-gone (fields (strip v))
   value-gone Formula from v = formula-gone (formulaShape (strip v)) ∙ ap (λ (t : Bool). when t (addFormula k st (formulaShape (strip v)))) (sym (and-true (formulaPasses k v && true)))
   value-gone BlockId from v = id-gone (fields (strip v))
   value-gone Atoms from v = atoms-gone (fields (strip v))
   value-gone (Rows r) from v = rows-gone r (fields (strip v))
+  value-gone (Xyz MaxXyz) from v = greatest-gone (number (onlyField (fields (strip v))))
+  value-gone (Xyz XyzFactor) from v = factor-gone (factorShape (onlyField (fields (strip v))))
+  value-gone (Xyz XyzRows) from v = xyzs-gone (fields (strip v))
   value-gone End from v = end-gone (fields (strip v))
   value-gone Skipped from v = refl
 

@@ -12,7 +12,7 @@ use borrow.Author.Tests.{eqb-true, eq-eqb, not-true}
 use Rattle.lists.specs.Lists.{all}
 use Rattle.lists.proofs.Bools.{torn, and-parts, or-other}
 use Rattle.format.specs.Bytes.{Bytes, isLabel, fields, strip}
-use Rattle.format.specs.Labels.{Holds, Text, Version, Formula, BlockId, Atoms, Rows, End, Skipped, Label, label, known, Parts, NoEquals, Parted, parts, partsLine, Line, Plain, Unparted, Labelled, lineOf}
+use Rattle.format.specs.Labels.{Holds, Text, Version, Formula, BlockId, Atoms, Rows, Xyz, End, Skipped, Label, label, known, Parts, NoEquals, Parted, parts, partsLine, Line, Plain, Unparted, Labelled, lineOf}
 use Rattle.format.specs.Rows.{number, field, atomShape, rowShape}
 use Rattle.format.specs.Formula.{formulaShape}
 use Rattle.format.specs.Reading.{ordered, State, Prose, prose, extended, opened, start}
@@ -20,7 +20,7 @@ use Rattle.format.specs.Walking.{untilLabel, valueOf}
 use Rattle.demands.specs.Accepted.{runsOn, unparted, labelOn, rowOn}
 use Rattle.demands.specs.ReadAs.{holdsText, startsText, textFrom}
 use Rattle.demands.proofs.AcceptedSteps.{afterValue, afterFurther, afterAs, after, afters, along, placedAt}
-use Rattle.demands.proofs.AcceptedState.{value-same, further-same, texts-formula, texts-id, texts-atoms, texts-list, after-running}
+use Rattle.demands.proofs.AcceptedState.{value-same, further-same, texts-formula, texts-id, texts-atoms, texts-list, texts-xyz, texts-xyz-further, after-running}
 use Rattle.demands.proofs.AcceptedLines.{label-passed, placed}
 use Rattle.demands.proofs.AcceptedOrder.{codeSeen, noted-some, seen-later, seen-now}
 use Rattle.demands.proofs.AcceptedOnce.{seen-barred}
@@ -68,18 +68,18 @@ until-nil = refl
 module _ (k : ℕ) where
   -- THE PLACE and the number of texts
   at-as : (st : State) (l : Bytes) (line : Line) → afterAs k st l line .at ≡ st .at
-  at-as st l Plain = further-same (λ (s : State). s .at) (λ s i t. refl) (λ s es. refl) (λ s b. refl) k (st .running) st l
+  at-as st l Plain = further-same (λ (s : State). s .at) (λ s i t. refl) (λ s es. refl) (λ s b. refl) (λ s p. refl) k (st .running) st l
   at-as st l Unparted = refl
-  at-as st l (Labelled x v) = value-same (λ (s : State). s .at) (λ s i t. refl) (λ s es. refl) (λ s b. refl) k (x .holds) (opened st x) _ v
+  at-as st l (Labelled x v) = value-same (λ (s : State). s .at) (λ s i t. refl) (λ s es. refl) (λ s b. refl) (λ s p. refl) k (x .holds) (opened st x) _ v
 
   after-at : (st : State) (l : Bytes) → after k st l .at ≡ st .at + length l
   unfolding after
   after-at st l = ap (λ (n : ℕ). n + length l) (at-as st l (lineOf l))
 
   count-as : (st : State) (l : Bytes) (line : Line) → length (afterAs k st l line .texts) ≡ length (st .texts)
-  count-as st l Plain = further-same (λ (s : State). length (s .texts)) (λ s i t. length-set (s .texts) i t) (λ s es. refl) (λ s b. refl) k (st .running) st l
+  count-as st l Plain = further-same (λ (s : State). length (s .texts)) (λ s i t. length-set (s .texts) i t) (λ s es. refl) (λ s b. refl) (λ s p. refl) k (st .running) st l
   count-as st l Unparted = refl
-  count-as st l (Labelled x v) = value-same (λ (s : State). length (s .texts)) (λ s i t. length-set (s .texts) i t) (λ s es. refl) (λ s b. refl) k (x .holds) (opened st x) _ v
+  count-as st l (Labelled x v) = value-same (λ (s : State). length (s .texts)) (λ s i t. length-set (s .texts) i t) (λ s es. refl) (λ s b. refl) (λ s p. refl) k (x .holds) (opened st x) _ v
 
   after-count : (st : State) (l : Bytes) → length (after k st l .texts) ≡ length (st .texts)
   unfolding after
@@ -99,6 +99,7 @@ module _ (k : ℕ) where
     value-here BlockId st from v n e = torn false e refl
     value-here Atoms st from v n e = torn false e refl
     value-here (Rows m) st from v n e = torn false e refl
+    value-here (Xyz x) st from v n e = torn false e refl
     value-here End st from v n e = torn false e refl
     value-here Skipped st from v n e = torn false e refl
 
@@ -111,6 +112,7 @@ module _ (k : ℕ) where
     further-here BlockId st l n e = torn false e refl
     further-here Atoms st l n e = torn false e refl
     further-here (Rows m) st l n e = torn false e refl
+    further-here (Xyz x) st l n e = torn false e refl
     further-here End st l n e = torn false e refl
     further-here Skipped st l n e = torn false e refl
 
@@ -124,6 +126,7 @@ module _ (k : ℕ) where
     value-other BlockId st from v e = ap (λ (ts : List Prose). getD ts i none) (texts-id k st (number (field 0 (fields (strip v)))))
     value-other Atoms st from v e = ap (λ (ts : List Prose). getD ts i none) (texts-atoms k st (rowOn atomShape (fields (strip v))))
     value-other (Rows m) st from v e = ap (λ (ts : List Prose). getD ts i none) (texts-list k m st (map ordered (rowOn (rowShape m) (fields (strip v)))))
+    value-other (Xyz x) st from v e = ap (λ (ts : List Prose). getD ts i none) (texts-xyz k x st (fields (strip v)))
     value-other End st from v e = refl
     value-other Skipped st from v e = refl
 
@@ -134,6 +137,7 @@ module _ (k : ℕ) where
     further-other BlockId st l e = refl
     further-other Atoms st l e = ap (λ (ts : List Prose). getD ts i none) (texts-atoms k st (rowOn atomShape (fields (strip l))))
     further-other (Rows m) st l e = ap (λ (ts : List Prose). getD ts i none) (texts-list k m st (map ordered (rowOn (rowShape m) (fields (strip l)))))
+    further-other (Xyz x) st l e = ap (λ (ts : List Prose). getD ts i none) (texts-xyz-further k x st (fields (strip l)))
     further-other End st l e = refl
     further-other Skipped st l e = refl
 

@@ -1,34 +1,40 @@
--- The demands of document 01, each in its words and in one statement, proved by one citation. Nothing else stands in this file. Assumes nothing.
-use Prim.Native.Nat.{ℕ, _+_, _<_, _≤_}
+-- The demands of document 01, as document 02, L2, has changed them, and what L2 asks: each in its words and in one statement, proved by one citation. Nothing else
+-- stands in this file. Assumes nothing.
+use Prim.Native.Nat.{ℕ, _+_, _*_, _^_, _≤_, _<_}
 use mathlib.Core.Path.{_≡_}
 use mathlib.Core.Bool.{true, false}
+use mathlib.Core.Logic.{_⊎_}
 use mathlib.Core.Option.{some}
 use mathlib.Core.List.{List, [], _∷_, _++_, map}
 use lib.ListN.{length, getD, drop, replicate}
-use lib.IntN.{ℤ}
+use lib.IntN.{ℤ, pos, natAbs, _*ℤ_}
 use lib.Dec.{ltb}
+use lib.Ieee.{Float}
 use Rattle.lists.specs.Lists.{all, any}
 use Rattle.format.specs.Bytes.{Bytes, bytes, isIn, cut, whole}
 use Rattle.format.specs.Labels.{ListOf, endLine}
 use Rattle.format.specs.Rows.{Row}
 use Rattle.format.specs.Formula.{Counted, formulaShape}
 use Rattle.format.specs.Grammar.{Says}
+use Rattle.format.specs.Coordinates.{Factor, Geometry, coordinate, Near, minusOf, positionTable}
 use Rattle.format.specs.Structure.{Isotope, Entry, total, agree, Atom, Structure, rowsOf, wellFormed}
 use Rattle.format.specs.Reading.{strict, Span, Read, readBlock}
-use Rattle.format.specs.Table.{zeros, width, rowPlace, atomPlace, textPlace, rowCells, spanCells, encode, textFine, textAt, sound, readAnswer, readResult}
+use Rattle.format.specs.Table.{zeros, width, rowPlace, atomPlace, textPlace, rowCells, spanCells, encode, textFine, textAt, sound, Lent, lent, noughts, short, overlaid, ample, readAnswer, readResult}
 use Rattle.format.specs.Writing.{canonical, formOf, unwritten, writtenAs, writeResult}
 use Rattle.format.specs.Walking.{block, piece, pieces, Answer, toldOf, answers}
-use Rattle.format.proofs.RefusedLaws as short
 use Rattle.format.proofs.TotalLaws as totals
 use Rattle.format.proofs.GrammarLaws as grammar
+use Rattle.format.proofs.CoordinateLaws as coordinates
 use Rattle.demands.specs.Cases.{judged}
 use Rattle.demands.specs.Starred.{starred}
 use Rattle.demands.specs.Neighbours.{neighbours}
-use Rattle.demands.specs.Examples.{formicInput, formicWritten, formicTable, neon, wrongNeon, exampleFile, printedAll, exampleLines}
+use Rattle.demands.specs.Placings.{placings}
+use Rattle.demands.specs.Examples.{formicInput, formicWritten, formicTable, placedNeon, placedPositions, neon, wrongNeon, exampleFile, printedAll, exampleLines}
 use Rattle.demands.specs.Stretches.{closing, opening, moved, _then_, textsTold, textsFrom, Chain, straysAdjoin, titleInStray, steps}
 use Rattle.demands.specs.WayBack.{ReadBack, TableBack, WrittenAgain, OneBlock}
-use Rattle.demands.specs.Accepted.{Obeys, _exactlyWhen_}
-use Rattle.demands.specs.ReadAs.{structureIn, spansIn}
+use Rattle.demands.specs.Accepted.{xyzRows, factorIn, Obeys, _exactlyWhen_}
+use Rattle.demands.specs.Positions.{AllNear, PositionTold}
+use Rattle.demands.specs.ReadAs.{structureIn, spansIn, geometryIn}
 use Rattle.demands.specs.ReadWritten.{formIn}
 use Rattle.demands.specs.Places.{numbersAt, atomNumbers}
 use Rattle.demands.specs.Demands.{Demand1, Demand2, Demand3}
@@ -45,15 +51,19 @@ use Rattle.demands.proofs.WayBackWalk as walk
 use Rattle.demands.proofs.PlacesHold as places
 use Rattle.demands.proofs.TextsTold as told
 use Rattle.demands.proofs.Strays as strays
+use Rattle.demands.proofs.Positions as positions
+use Rattle.demands.proofs.PositionsGiven as given
 use Rattle.demands.proofs.Today as today
 
 -- DEMAND 1
--- "A refused reading zeroes the structure table, save where that table is too short and is untouched."
-pub refused-zero : (k : ℕ) (b : Bytes) (t : List ℤ) → 3856 ≤ length t → (readResult k b t .number ≡ 0 → ⊥) → readResult k b t .table ≡ zeros 3856 ++ drop 3856 t
+-- "A refused reading zeroes the structure table, save where that table is too short and is untouched."; L2: positions are "cleared on refusals other than 1", and "a
+-- short position table is 1, nothing touched": where either table is too short, both stay as lent
+pub refused-zero : (k : ℕ) (b : Bytes) (t : List ℤ) (p : List Float) → 3856 ≤ length t → 1024 ≤ length p → (readResult k b (lent t p) .number ≡ 0 → ⊥) →
+    readResult k b (lent t p) .after ≡ lent (zeros 3856 ++ drop 3856 t) (noughts 1024 ++ drop 1024 p)
 refused-zero = refused.refused-zero
 
-pub short-untouched : (k : ℕ) (b : Bytes) (t : List ℤ) → length t < 3856 → readResult k b t ≡ readAnswer 1 0 t
-short-untouched = short.short-untouched
+pub short-untouched : (k : ℕ) (b : Bytes) (t : List ℤ) (p : List Float) → (length t < 3856) ⊎ (length p < 1024) → readResult k b (lent t p) ≡ readAnswer 1 0 (lent t p)
+short-untouched = refused.short-untouched
 
 -- "A refused writing changes nothing.": it answers 0 bytes and leaves the buffer as lent
 pub refused-write : (k : ℕ) (t : List ℤ) (b buffer : Bytes) → (writeResult k t b buffer .number ≡ 0 → ⊥) → writeResult k t b buffer ≡ unwritten (writeResult k t b buffer .number) buffer
@@ -61,13 +71,14 @@ refused-write = refused.refused-write
 
 -- DEMAND 2
 -- a block is accepted exactly when each line breaks no rule of its own, MOLFORM says a formula by the grammar, the labels stand in order, no two rows of one list clash,
--- the lists keep their limits, the required records are there, the formula's totals are the atoms' for every element and mass, and one END line stands there with
--- only blanks behind it
-pub accepted-iff : (k : ℕ) (b : Bytes) (t : List ℤ) → 3856 ≤ length t → (readResult k b t .number ≡ 0) exactlyWhen Obeys k b
+-- the lists keep their limits, the required records are there, the formula's totals are the atoms' for every element and mass, the rows of XYZ name listed atoms, ascend
+-- and keep MAX_XYZ, which stands with XYZ_FACTOR and XYZ or not at all, and one END line stands there with only blanks behind it
+pub accepted-iff : (k : ℕ) (b : Bytes) (l : Lent) → short l ≡ false → (readResult k b l .number ≡ 0) exactlyWhen Obeys k b
 accepted-iff = accepted.accepted-iff
 
--- and its table is then, number for number, that of its atoms in order, of the rows of each list sorted and without repeats, of its block id and of its texts
-pub table-is : (k : ℕ) (b : Bytes) (t : List ℤ) → 3856 ≤ length t → Obeys k b → readResult k b t ≡ readAnswer 0 0 (encode (structureIn k b) (spansIn b) ++ drop 3856 t)
+-- and its table is then, number for number, that of its atoms in order, of the rows of each list sorted and without repeats, of its block id and of its texts; and
+-- its positions are those of its factor and its rows of XYZ
+pub table-is : (k : ℕ) (b : Bytes) (l : Lent) → short l ≡ false → Obeys k b → readResult k b l ≡ readAnswer 0 0 (overlaid (encode (structureIn k b) (spansIn b)) (positionTable (geometryIn b)) l)
 table-is = read.table-is
 
 -- "MOLFORM: entries of a symbol and an optional count ..": the machine that reads a formula gives a list of entries exactly when the grammar says that list of its
@@ -79,25 +90,25 @@ pub formula-once : (v : Bytes) (cs ds : List Counted) → Says v cs → Says v d
 formula-once = grammar.formula-once
 
 -- of every accepted block the structure is well-formed, the texts are fine, and the table is sound with the block as the texts' bytes (1 ≤ k: D and T are hydrogen)
-pub read-sound : (k : ℕ) (b : Bytes) (s : Structure) (spans : List Span) → 1 ≤ k → readBlock (strict k) b ≡ Read s spans →
+pub read-sound : (k : ℕ) (b : Bytes) (s : Structure) (spans : List Span) (p : Geometry) → 1 ≤ k → readBlock (strict k) b ≡ Read s spans p →
     (wellFormed k s ≡ true) × (all textFine (map (textAt b) spans) ≡ true) × (sound k (encode s spans) b ≡ true)
 read-sound = kept.read-sound
 
-pub accepted-sound : (k : ℕ) (b : Bytes) (t : List ℤ) → 1 ≤ k → 3856 ≤ length t → readResult k b t .number ≡ 0 → sound k (readResult k b t .table) b ≡ true
+pub accepted-sound : (k : ℕ) (b : Bytes) (t : Lent) → 1 ≤ k → short t ≡ false → readResult k b t .number ≡ 0 → sound k (readResult k b t .after .table) b ≡ true
 accepted-sound = kept.accepted-sound
 
 -- so what was read can be written: the answer is the form of what the block was read as, or 23, it passes 32,768 bytes, or 22, the buffer is shorter; never 1 or 21
-pub read-written : (k : ℕ) (b : Bytes) (t : List ℤ) → 1 ≤ k → 3856 ≤ length t → readResult k b t .number ≡ 0 → (buffer : Bytes) →
-    writeResult k (readResult k b t .table) b buffer ≡ writtenAs (ltb 32768 (length (formIn k b))) (ltb (length buffer) (length (formIn k b))) (formIn k b) buffer
+pub read-written : (k : ℕ) (b : Bytes) (t : Lent) → 1 ≤ k → short t ≡ false → readResult k b t .number ≡ 0 → (buffer : Bytes) →
+    writeResult k (readResult k b t .after .table) b buffer ≡ writtenAs (ltb 32768 (length (formIn k b))) (ltb (length buffer) (length (formIn k b))) (formIn k b) buffer
 read-written = kept.read-written
 
-pub read-then-written : (k : ℕ) (b : Bytes) (t : List ℤ) → 1 ≤ k → 3856 ≤ length t → readResult k b t .number ≡ 0 → (buffer : Bytes) →
-    isIn (writeResult k (readResult k b t .table) b buffer .number) (0 ∷ 22 ∷ 23 ∷ []) ≡ true
+pub read-then-written : (k : ℕ) (b : Bytes) (t : Lent) → 1 ≤ k → short t ≡ false → readResult k b t .number ≡ 0 → (buffer : Bytes) →
+    isIn (writeResult k (readResult k b t .after .table) b buffer .number) (0 ∷ 22 ∷ 23 ∷ []) ≡ true
 read-then-written = kept.read-then-written
 
 -- and what is read, written and read again gives a sound table with the same numbers but for the starts of the texts, where texts of the same content stand
-pub read-written-read : (k : ℕ) (b : Bytes) (t : List ℤ) → 1 ≤ k → 3856 ≤ length t → readResult k b t .number ≡ 0 → (buffer : Bytes) (into : List ℤ) → k ≤ 103 →
-    length (formOf (readResult k b t .table) b) ≤ 32768 → length (formOf (readResult k b t .table) b) ≤ length buffer → 3856 ≤ length into → TableBack k (readResult k b t .table) b buffer into
+pub read-written-read : (k : ℕ) (b : Bytes) (t : Lent) → 1 ≤ k → short t ≡ false → readResult k b t .number ≡ 0 → (buffer : Bytes) (into : Lent) → k ≤ 103 →
+    length (formOf (readResult k b t .after .table) b) ≤ 32768 → length (formOf (readResult k b t .after .table) b) ≤ length buffer → short into ≡ false → TableBack k (readResult k b t .after .table) b buffer into
 read-written-read = kept.read-written-read
 
 -- there are blocks that obey and blocks that do not: the neon block, the one with `2 Ne`
@@ -119,7 +130,7 @@ pub neighbours-hold : map judged neighbours ≡ map (λ c. c .answer) neighbours
 neighbours-hold = worked.neighbours-hold
 
 -- formic acid is read to its table, and that table is written as document 01 has it, byte for byte
-pub formic-read : readResult 103 (bytes formicInput) (zeros 3856) ≡ readAnswer 0 0 formicTable
+pub formic-read : readResult 103 (bytes formicInput) ample ≡ readAnswer 0 0 (lent formicTable (noughts 1024))
 formic-read = worked.formic-read
 
 pub formic-written : writeResult 103 formicTable (bytes formicInput) (replicate 158 7) ≡ record { number = 0; count = 156; buffer = bytes formicWritten ++ (7 ∷ 7 ∷ []) }
@@ -131,14 +142,15 @@ pub way-back : (k : ℕ) (s : Structure) (title origin owner : Bytes) → k ≤ 
 way-back = back.way-back
 
 -- and over tables: a sound table whose form fits the limit and the buffer is written, and "reading it back gives the same table and texts, though the texts may stand
--- elsewhere": only the three starts may differ, and the table read back is sound with the form
-pub table-back : (k : ℕ) (t : List ℤ) (b buffer : Bytes) (into : List ℤ) → k ≤ 103 → 3856 ≤ length t → sound k t b ≡ true → length (formOf t b) ≤ 32768 → length (formOf t b) ≤ length buffer →
-    3856 ≤ length into → TableBack k t b buffer into
+-- elsewhere": only the three starts may differ, and the table read back is sound with the form. "XYZ isn't written yet, so demand 2's way back covers the structure table
+-- only" (L2): no position is given after the form is read
+pub table-back : (k : ℕ) (t : List ℤ) (b buffer : Bytes) (into : Lent) → k ≤ 103 → 3856 ≤ length t → sound k t b ≡ true → length (formOf t b) ≤ 32768 → length (formOf t b) ≤ length buffer →
+    short into ≡ false → TableBack k t b buffer into
 table-back = tables.table-back
 
 -- a form is written again from its own reading: the table that it is read into is sound, and written into any buffer with room it is the form, byte for byte
 pub written-again : (k : ℕ) (s : Structure) (title origin owner : Bytes) → k ≤ 103 → wellFormed k s ≡ true → all textFine (title ∷ origin ∷ owner ∷ []) ≡ true →
-    length (canonical s (title ∷ origin ∷ owner ∷ [])) ≤ 32768 → (into : List ℤ) → 3856 ≤ length into → WrittenAgain k (canonical s (title ∷ origin ∷ owner ∷ [])) into
+    length (canonical s (title ∷ origin ∷ owner ∷ [])) ≤ 32768 → (into : Lent) → short into ≡ false → WrittenAgain k (canonical s (title ∷ origin ∷ owner ∷ [])) into
 written-again = again.written-again
 
 -- only a form's first line is a TITLE line and only its last an END line; in a file by itself it is one block
@@ -163,10 +175,33 @@ pub text-in-place : (s : Structure) (title origin owner : Span) (i : ℕ) (other
     numbersAt (textPlace i) 2 (encode s (title ∷ origin ∷ owner ∷ [])) ≡ spanCells (getD (title ∷ origin ∷ owner ∷ []) i other)
 text-in-place = places.text-in-place
 
+-- DOCUMENT 02, L2
+-- "The result times that power differs from the product by at most the product's size over 2^53, said over whole numbers.": of any row value and any factor that a block can
+-- give, with the product's sign
+pub coordinate-near : (f : Factor) (v : ℤ) → f .digits ≤ 999999999 → natAbs v ≤ 999999 → f .decimals ≤ 9 →
+    Near (minusOf (v *ℤ pos (f .digits))) (natAbs v * f .digits) (10 ^ f .decimals) (coordinate f v)
+coordinate-near = coordinates.coordinate-near
+
+-- and that is every row value and every factor that any block gives
+pub positions-near : (b : Bytes) → AllNear (factorIn b) (xyzRows b)
+positions-near = positions.positions-near
+
+-- "per atom 1 if given, X, Y, Z; else four 0": in the table of positions after every accepted reading, the first of an atom's four numbers is 1 exactly when a row of XYZ
+-- names the atom; the other three are then that row's coordinates; where no row does, all four are 0
+pub positions-given : (k : ℕ) (b : Bytes) (l : Lent) → short l ≡ false → readResult k b l .number ≡ 0 → (n : ℕ) → 1 ≤ n → n ≤ 256 → PositionTold b n (readResult k b l .after .positions)
+positions-given = given.positions-given
+
+-- cases of the three labels; and the positions of one block, number for number: with the factor 0.1 a row's 3 is 0.3
+pub placings-hold : map judged placings ≡ map (λ c. c .answer) placings
+placings-hold = worked.placings-hold
+
+pub placed-read : readResult 103 (bytes placedNeon) ample .after .positions ≡ placedPositions
+placed-read = worked.placed-read
+
 -- DEMAND 3
 -- "Take a file of three stretches, within the file limit: the first empty or ending with a block closed by its END line and line feed; the second anything,
 -- empty or ending in a line feed; the third empty or starting with a TITLE line. The answers for the file are those for each stretch read alone, one after the
--- other, only the file places moved along." "tables and texts included": an answer carries its block's table and the bytes of its three texts
+-- other, only the file places moved along." "tables and texts included": an answer carries its block's table, its positions and the bytes of its three texts
 pub three-stretches : (k : ℕ) (a b c : Bytes) → length (a ++ (b ++ c)) ≤ 16777216 → closing a ≡ true → whole b ≡ true → opening c ≡ true →
     answers k (a ++ (b ++ c)) ≡ answers k a then moved (length a) (answers k b) then moved (length a + length b) (answers k c)
 three-stretches = stretches.three-stretches
@@ -187,7 +222,7 @@ pub texts-told : (k : ℕ) (s : Bytes) → 1 ≤ k → (l : List Answer) → ans
 texts-told = told.texts-told
 
 -- "No block without an END line is accepted."
-pub accepted-has-end : (k : ℕ) (b : Bytes) (t : List ℤ) → readResult k b t .number ≡ 0 → any endLine (cut b) ≡ true
+pub accepted-has-end : (k : ℕ) (b : Bytes) (t : Lent) → readResult k b t .number ≡ 0 → any endLine (cut b) ≡ true
 accepted-has-end = stretches.accepted-has-end
 
 -- "So every byte belongs to one answer and the lengths add up to the file's."

@@ -27,6 +27,7 @@ pub mod AcceptedRows
 pub mod AcceptedOrder
 pub mod AcceptedOnce
 pub mod AcceptedFormula
+pub mod AcceptedGeometry
 pub mod AcceptedTexts
 pub mod Accepted
 pub mod ReadAs
@@ -35,5 +36,7 @@ pub mod AcceptedSoundRows
 pub mod AcceptedSoundTexts
 pub mod AcceptedSound
 pub mod TextsTold
+pub mod Positions
+pub mod PositionsGiven
 pub mod Today
 pub mod Demands

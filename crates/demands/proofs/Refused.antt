@@ -1,23 +1,35 @@
 -- Demand 1 over the definitions: what a refusal leaves of what was lent. Assumes nothing.
-use Prim.Native.Nat.{ℕ, _<_, _≤_}
-use mathlib.Core.Path.{_≡_, refl, sym, ap, _∙_}
+use Prim.Native.Nat.{ℕ, _≤_, _<_}
+use mathlib.Core.Path.{_≡_, refl, ap, _∙_}
+use mathlib.Core.Logic.{_⊎_}
 use mathlib.Core.Bool.{Bool, true, false}
 use mathlib.Core.List.{List, _++_}
 use lib.ListN.{length, drop}
 use lib.IntN.{ℤ}
 use lib.Dec.{ltb}
+use lib.Ieee.{Float}
 use Rattle.format.specs.Bytes.{Bytes}
 use Rattle.format.specs.Reading.{Reading, Read, Unread, strict, readBlock}
-use Rattle.format.specs.Table.{zeros, sound, ReadResult, readAnswer, tableOf, readResult}
-use Rattle.format.proofs.RefusedLaws.{long-read}
+use Rattle.format.specs.Table.{zeros, sound, Lent, lent, noughts, short, cleared, ReadResult, readAnswer, readInto, readResult}
+use Rattle.format.proofs.RefusedLaws.{both-long, either-short, long-read}
+use Rattle.format.proofs.RefusedLaws as laws
 use Rattle.format.specs.Writing.{WriteResult, unwritten, writtenAs, formOf, writeResult}
 
-pub refused-zero : (k : ℕ) (b : Bytes) (t : List ℤ) → 3856 ≤ length t → (readResult k b t .number ≡ 0 → ⊥) → readResult k b t .table ≡ zeros 3856 ++ drop 3856 t
-refused-zero k b t h refused = go (readBlock (strict k) b) refl
+pub refused-cleared : (k : ℕ) (b : Bytes) (l : Lent) → short l ≡ false → (readResult k b l .number ≡ 0 → ⊥) → readResult k b l .after ≡ cleared l
+refused-cleared k b l h refused = go (readBlock (strict k) b) refl
   where
-    go : (r : Reading) → readBlock (strict k) b ≡ r → readResult k b t .table ≡ zeros 3856 ++ drop 3856 t
-    go (Read s spans) e = absurd (refused (ap (λ (x : ReadResult). x .number) (long-read k b t h ∙ ap (tableOf (drop 3856 t)) e)))
-    go (Unread n p) e = ap (λ (x : ReadResult). x .table) (long-read k b t h ∙ ap (tableOf (drop 3856 t)) e)
+    go : (r : Reading) → readBlock (strict k) b ≡ r → readResult k b l .after ≡ cleared l
+    go (Read s spans p) e = absurd (refused (ap (λ (x : ReadResult). x .number) (long-read k b l h ∙ ap (readInto l) e)))
+    go (Unread n p) e = ap (λ (x : ReadResult). x .after) (long-read k b l h ∙ ap (readInto l) e)
+
+-- the same of two tables, number for number: both zeroed in front where both are long enough, both as lent where either is too short
+module _ (k : ℕ) (b : Bytes) (t : List ℤ) (p : List Float) where
+  pub refused-zero : 3856 ≤ length t → 1024 ≤ length p → (readResult k b (lent t p) .number ≡ 0 → ⊥) → readResult k b (lent t p) .after ≡ lent (zeros 3856 ++ drop 3856 t) (noughts 1024 ++ drop 1024 p)
+  unfolding cleared
+  refused-zero h i = refused-cleared k b (lent t p) (both-long (lent t p) h i)
+
+  pub short-untouched : (length t < 3856) ⊎ (length p < 1024) → readResult k b (lent t p) ≡ readAnswer 1 0 (lent t p)
+  short-untouched h = laws.short-untouched k b (lent t p) (either-short (lent t p) h)
 
 -- a refused writing answers 0 bytes and changes nothing
 abbrev Untouched : Bytes → WriteResult → Type 0

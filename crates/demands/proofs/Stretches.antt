@@ -10,15 +10,13 @@ use native.Mathlib.Omega.{arith}
 use lib.ListN.{length, take, drop, length-append, length-drop}
 use lib.Seq.{drop-drop}
 use borrow.Author.Tests.{le-ltb}
-use lib.Dec.{ltb}
-use lib.IntN.{ℤ}
 use Rattle.lists.specs.Lists.{any, concat}
 use Rattle.lists.proofs.Bools.{torn, and-parts}
 use Rattle.lists.proofs.PartLaws.{concat-length, slice-before, slice-behind}
 use Rattle.format.specs.Bytes.{Bytes, bytes, cut, whole, wholeFrom}
 use Rattle.format.specs.Labels.{titleLine, endLine}
 use Rattle.format.specs.Reading.{strict, Reading, Read, Unread, readBlock}
-use Rattle.format.specs.Table.{ReadResult, readAnswer, tableOf, readResult}
+use Rattle.format.specs.Table.{Lent, short, ReadResult, readAnswer, readInto, readResult}
 use Rattle.format.specs.Walking.{block, stray, Piece, piece, Mode, outside, inBlock, inStray, close, ended, next, run, pieces, move, Found, Finished, firstOf, walkAt, Answer, bytesOf, toldOf, answered, answers}
 use Rattle.format.proofs.Computing.{computing}
 use Rattle.format.proofs.AcceptedLaws.{read-has-end, block-refuses}
@@ -351,14 +349,14 @@ unfolding computing closing lastFrom
 met = (omega arith, refl, refl, refl)
 
 -- NO BLOCK WITHOUT AN END LINE: number 0 is the answer to accepted blocks alone
-pub accepted-has-end : (k : ℕ) (b : Bytes) (t : List ℤ) → readResult k b t .number ≡ 0 → any endLine (cut b) ≡ true
+pub accepted-has-end : (k : ℕ) (b : Bytes) (t : Lent) → readResult k b t .number ≡ 0 → any endLine (cut b) ≡ true
 unfolding readResult
-accepted-has-end k b t h = by (ltb (length t) 3856) (readBlock (strict k) b) refl h
+accepted-has-end k b t h = by (short t) (readBlock (strict k) b) refl h
   where
-    answer : (short : Bool) → Reading → ReadResult
-    answer short r = elim short [ true ↦ readAnswer 1 0 t | false ↦ tableOf (drop 3856 t) r ]
+    answer : (brief : Bool) → Reading → ReadResult
+    answer brief r = elim brief [ true ↦ readAnswer 1 0 t | false ↦ readInto t r ]
 
-    by : (short : Bool) (r : Reading) → readBlock (strict k) b ≡ r → answer short r .number ≡ 0 → any endLine (cut b) ≡ true
+    by : (brief : Bool) (r : Reading) → readBlock (strict k) b ≡ r → answer brief r .number ≡ 0 → any endLine (cut b) ≡ true
     by true r e h = absurd (omega arith)
-    by false (Read s spans) e h = read-has-end (strict k) b s spans e
+    by false (Read s spans p) e h = read-has-end (strict k) b s spans p e
     by false (Unread n p) e h = absurd (omega (arith, block-refuses (strict k) b n p e))

@@ -2,8 +2,8 @@
 -- have them, counted from their block's start. Document 01, demand 3, "tables and texts included". Assumes nothing.
 use Prim.Native.Nat.{ℕ, zero, suc, _+_, _-_, _≤_}
 use mathlib.Core.Path.{_≡_, refl, sym, ap, _∙_, subst}
-use mathlib.Core.Bool.{Bool, true, false, _&&_}
-use mathlib.Core.Option.{Option, none, some}
+use mathlib.Core.Bool.{Bool, true, false}
+use mathlib.Core.Option.{none, some}
 use mathlib.Core.List.{List, [], _∷_, _++_, map}
 use native.Mathlib.Omega.{arith}
 use lib.ListN.{length, take, drop, take-append-drop}
@@ -16,14 +16,14 @@ use Rattle.lists.proofs.ListLaws.{all-parts}
 use Rattle.lists.proofs.PartLaws.{slice-before}
 use Rattle.format.specs.Bytes.{Bytes}
 use Rattle.format.specs.Reading.{Span, Reading, Read, Unread, strict, readBlock}
-use Rattle.format.specs.Table.{zeros, counts, encode, spansOf, textFine, textAt, spanOk, textOk, soundNumbers, sound, ReadResult, tableOf, readResult}
+use Rattle.format.specs.Table.{zeros, counts, encode, spansOf, textFine, textAt, spanOk, textOk, soundNumbers, sound, Lent, cleared, ample, ReadResult, readInto, readResult}
 use Rattle.format.specs.Walking.{Kind, block, stray, Piece, pieces, Answer, bytesOf, toldOf, answered, answers}
 use Rattle.format.proofs.Computing.{computing}
-use Rattle.format.proofs.RefusedLaws.{zeros-long, long-read}
+use Rattle.format.proofs.RefusedLaws.{ample-long, long-read}
 use Rattle.demands.specs.Stretches.{textsTold, textsFrom}
 use Rattle.demands.specs.Accepted.{Obeys}
 use Rattle.demands.specs.ReadAs.{structureIn, spansIn}
-use Rattle.demands.proofs.Refused.{refused-zero}
+use Rattle.demands.proofs.Refused.{refused-cleared}
 use Rattle.demands.proofs.Accepted.{accepted-iff}
 use Rattle.demands.proofs.ReadAs.{table-is}
 use Rattle.demands.proofs.AcceptedSound.{accepted-sound}
@@ -35,15 +35,15 @@ encoded-spans k b beyond = refl
 
 pub accepted-texts : (k : ℕ) (b : Bytes) → Obeys k b → textsTold (toldOf k block b) ≡ map (textAt b) (spansIn b)
 accepted-texts k b y =
-    ap (λ (r : ReadResult). map (textAt b) (spansOf (r .table))) (table-is k b (zeros 3856) zeros-long y) ∙ ap (map (textAt b)) (encoded-spans k b (drop 3856 (zeros 3856)))
+    ap (λ (r : ReadResult). map (textAt b) (spansOf (r .after .table))) (table-is k b ample ample-long y) ∙ ap (map (textAt b)) (encoded-spans k b (drop 3856 (ample .table)))
 
-zeroed-empty : (b : Bytes) (beyond : List ℤ) → map (textAt b) (spansOf (zeros 3856 ++ beyond)) ≡ [] ∷ [] ∷ [] ∷ []
-unfolding zeros spansOf rowsFrom textAt
-zeroed-empty b beyond = refl
+zeroed-empty : (b : Bytes) (l : Lent) → map (textAt b) (spansOf (cleared l .table)) ≡ [] ∷ [] ∷ [] ∷ []
+unfolding cleared zeros spansOf rowsFrom textAt
+zeroed-empty b l = refl
 
 pub refused-texts : (k : ℕ) (b : Bytes) → (Obeys k b → ⊥) → textsTold (toldOf k block b) ≡ [] ∷ [] ∷ [] ∷ []
 refused-texts k b breaks =
-    ap (λ (t : List ℤ). map (textAt b) (spansOf t)) (refused-zero k b (zeros 3856) zeros-long (λ e. breaks (accepted-iff k b (zeros 3856) zeros-long .0 e))) ∙ zeroed-empty b (drop 3856 (zeros 3856))
+    ap (λ (l : Lent). map (textAt b) (spansOf (l .table))) (refused-cleared k b ample ample-long (λ e. breaks (accepted-iff k b ample ample-long .0 e))) ∙ zeroed-empty b ample
 
 -- A TEXT IN BOUNDS of the first n bytes stands in all of them
 span-longer : (n : ℕ) (l : Bytes) (p m : ℕ) → spanOk p m (take n l) ≡ true → take m (drop p (take n l)) ≡ take m (drop p l)
@@ -66,19 +66,19 @@ sound-texts : (k : ℕ) (t : List ℤ) (b : Bytes) → sound k t b ≡ true → 
 unfolding sound
 sound-texts k t b h = and-parts (soundNumbers k t) (all (textOk b) (spansOf t)) h .1
 
-zeroed-texts : (b : Bytes) (beyond : List ℤ) → all (textOk b) (spansOf (zeros 3856 ++ beyond)) ≡ true
+zeroed-texts : (b : Bytes) (l : Lent) → all (textOk b) (spansOf (cleared l .table)) ≡ true
 unfolding computing
-zeroed-texts b beyond = refl
+zeroed-texts b l = refl
 
-read-texts : (k : ℕ) (b : Bytes) → 1 ≤ k → all (textOk b) (spansOf (readResult k b (zeros 3856) .table)) ≡ true
+read-texts : (k : ℕ) (b : Bytes) → 1 ≤ k → all (textOk b) (spansOf (readResult k b ample .after .table)) ≡ true
 read-texts k b one = go (readBlock (strict k) b) refl
   where
-    go : (r : Reading) → readBlock (strict k) b ≡ r → all (textOk b) (spansOf (readResult k b (zeros 3856) .table)) ≡ true
-    go (Read s spans) e =
-        sound-texts k (readResult k b (zeros 3856) .table) b
-        (accepted-sound k b (zeros 3856) one zeros-long (ap (λ (x : ReadResult). x .number) (long-read k b (zeros 3856) zeros-long ∙ ap (tableOf (drop 3856 (zeros 3856))) e)))
+    go : (r : Reading) → readBlock (strict k) b ≡ r → all (textOk b) (spansOf (readResult k b ample .after .table)) ≡ true
+    go (Read s spans g) e =
+        sound-texts k (readResult k b ample .after .table) b
+        (accepted-sound k b ample one ample-long (ap (λ (x : ReadResult). x .number) (long-read k b ample ample-long ∙ ap (readInto ample) e)))
     go (Unread n p) e =
-        ap (λ (x : ReadResult). all (textOk b) (spansOf (x .table))) (long-read k b (zeros 3856) zeros-long ∙ ap (tableOf (drop 3856 (zeros 3856))) e) ∙ zeroed-texts b (drop 3856 (zeros 3856))
+        ap (λ (x : ReadResult). all (textOk b) (spansOf (x .after .table))) (long-read k b ample ample-long ∙ ap (readInto ample) e) ∙ zeroed-texts b ample
 
 -- EVERY ANSWER for a file
 module _ (k : ℕ) (s : Bytes) (one : 1 ≤ k) where

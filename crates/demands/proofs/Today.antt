@@ -1,11 +1,11 @@
 -- The three demands at the 103 elements of today: the theorems for every number of elements, with nothing left to ask of it. Restated in Demands.antt. Assumes nothing.
-use Prim.Native.Nat.{ℕ, _≤_}
+use Prim.Native.Nat.{_≤_}
 use native.Mathlib.Omega.{arith}
 use Rattle.demands.specs.Demands.{Demand1, Demand2, Demand3}
-use Rattle.format.proofs.RefusedLaws as short
 use Rattle.demands.proofs.Accepted as accepted
 use Rattle.demands.proofs.AcceptedSound as kept
 use Rattle.demands.proofs.ReadAs as read
+use Rattle.demands.proofs.PositionsGiven as given
 use Rattle.demands.proofs.Refused as refused
 use Rattle.demands.proofs.Stretches as stretches
 use Rattle.demands.proofs.TextsTold as told
@@ -21,14 +21,15 @@ most : 103 ≤ 103
 most = omega arith
 
 pub demand-1 : Demand1 103
-demand-1 = record { refused-zero = refused.refused-zero 103; short-untouched = short.short-untouched 103; refused-write = refused.refused-write 103 }
+demand-1 = record { refused-zero = refused.refused-zero 103; short-untouched = refused.short-untouched 103; refused-write = refused.refused-write 103 }
 
 pub demand-2 : Demand2 103
 demand-2 = record {
   accepted-iff = accepted.accepted-iff 103;
   table-is = read.table-is 103;
-  read-sound = λ b s spans. kept.read-sound 103 b s spans one;
+  read-sound = λ b s spans g. kept.read-sound 103 b s spans g one;
   accepted-sound = λ b t. kept.accepted-sound 103 b t one;
+  positions-given = given.positions-given 103;
   read-written = λ b t. kept.read-written 103 b t one;
   read-then-written = λ b t. kept.read-then-written 103 b t one;
   read-written-read = λ b t wide given buffer into. kept.read-written-read 103 b t one wide given buffer into most;

@@ -14,6 +14,7 @@ use Rattle.lists.proofs.Bools.{and-parts}
 use Rattle.lists.proofs.ListLaws.{all-parts}
 use Rattle.format.specs.Bytes.{Bytes, bytes, within, cut}
 use Rattle.format.specs.Labels.{ListOf, Bonds, Charges, Radicals, Centres, Pairs, Holds, Text, BlockId, Formula, Atoms, Label, misplaced}
+use Rattle.format.specs.Coordinates.{noGeometry}
 use Rattle.format.specs.Structure.{Atom, entriesOf, Structure, rowsOf, lists, atomOk, rowsOk, wellFormed}
 use Rattle.format.specs.Reading.{Rules, strict, State, Prose, prose, over, lacks, readLines, start, Accepted, finished, Span, spanOf, Read, readingOf, readBlock}
 use Rattle.format.specs.Table.{textFine, textAt, textOk}
@@ -123,6 +124,11 @@ all-had : (n : ℕ) → any (lacks (atomsLabel ∷ formulaLabel ∷ idSeen n)) (
 unfolding computing
 all-had zero = refl
 all-had (suc n) = refl
+
+all-spare : (n : ℕ) → all (lacks (atomsLabel ∷ formulaLabel ∷ idSeen n)) (14 ∷ 15 ∷ 16 ∷ []) ≡ true
+unfolding computing
+all-spare zero = refl
+all-spare (suc n) = refl
 
 version-free : misplaced (titleLabel ∷ []) versionLabel ≡ false
 unfolding computing
@@ -235,6 +241,7 @@ module _ (k : ℕ) (most : k ≤ 103) (s : Structure) (ok : Fine k s) (t0 t1 t2 
         runs = refl;
         clear = lists-free (s .id);
         had = all-had (s .id);
+        spare = all-spare (s .id);
         reads = atoms-read;
       } in
       end-stage u begin form texts (gathered (s .atoms)) (turned s) (lists-stage u begin form texts (gathered (s .atoms)) s (omega (arith, ok .high)) (ok .rows) ended g) (ok .low) (gathered-agree formulaBefore (entriesOf (s .atoms)))
@@ -288,13 +295,13 @@ module _ (k : ℕ) (most : k ≤ 103) (s : Structure) (ok : Fine k s) (t0 t1 t2 
         sorted-back (s .pairs) (ok .rows Pairs .ascending),
       ) refl
 
-  form-read : length form ≤ 32768 → readBlock u form ≡ Read s spans
+  form-read : length form ≤ 32768 → readBlock u form ≡ Read s spans noGeometry
   unfolding readBlock
   form-read fits =
       let x : AcceptedAs u begin form texts (gathered (s .atoms)) (turned s) = accepted in
       let e : readLines u start (cut form) ≡ Accepted (x .last) = ap (λ (st : State). readLines u st (cut form)) start-is ∙ x .reads in
-      rw (le-ltb 32768 (length form) fits, readBlock) (ap readingOf e ∙ ap (λ (b : Structure). Read (finished b) (map spanOf (x .last .texts))) (x .body-is) ∙ ap (λ (l : List Prose). Read (finished (turned s)) (map spanOf l)) (x .texts-are)
-      ∙ ap (λ (b : Structure). Read b (map spanOf texts)) structure-back ∙ ap (Read s) spans-are)
+      rw (le-ltb 32768 (length form) fits, readBlock) (ap readingOf e ∙ ap (λ (b : Structure). Read (finished b) (map spanOf (x .last .texts)) (x .last .geometry)) (x .body-is) ∙ ap (λ (l : List Prose). Read (finished (turned s)) (map spanOf l) (x .last .geometry)) (x .texts-are) ∙ ap (Read (finished (turned s)) (map spanOf texts)) (x .geometry-is)
+      ∙ ap (λ (b : Structure). Read b (map spanOf texts) noGeometry) structure-back ∙ ap (λ (l : List Span). Read s l noGeometry) spans-are)
 
   pub form-back : length (canonical s (t0 ∷ t1 ∷ t2 ∷ [])) ≤ 32768 → ReadBack k s (t0 ∷ t1 ∷ t2 ∷ [])
   form-back fits = record {

@@ -16,6 +16,7 @@ use Rattle.lists.proofs.PartLaws.{concat-nil, concat-cons, concat-snoc, flat-ni
 use Rattle.format.specs.Bytes.{Bytes, bytes, allowed, cut, lineLen, wholeFrom, whole}
 use Rattle.format.specs.Labels.{ListOf, Label, misplaced, Line, Plain, Unparted, Labelled, lineOf, hasCode, titleLine, endLine}
 use Rattle.format.specs.Rows.{Row}
+use Rattle.format.specs.Coordinates.{Geometry}
 use Rattle.format.specs.Structure.{Atom, Structure, rowsOf, lists, entriesOf}
 use Rattle.format.specs.Writing.{digits, line, atomWords, printAtoms, rowWords, formulaOf, fragment, printFormula, valued, printRecord, printId, listLabel, printRows, records, canonical}
 use Rattle.format.specs.Reading.{Rules, State, Go, if_stop_else_, past, noted, lacks, lineTurn, lineStep, Outcome, Accepted, Refused, readLines, start, Span, Read, Unread, readingOf, readBlock}
@@ -109,14 +110,14 @@ module _ (u : Rules) (c : ℕ) where
       by false q ih = any-neither coded l ls q ih
 
 -- WHAT IS ACCEPTED: all its lines go, and the first is a TITLE line
-pub block-goes : (u : Rules) (b : Bytes) (s : Structure) (spans : List Span) → readBlock u b ≡ Read s spans → (last : State) × Goes u start (cut b) last
+pub block-goes : (u : Rules) (b : Bytes) (s : Structure) (spans : List Span) (p : Geometry) → readBlock u b ≡ Read s spans p → (last : State) × Goes u start (cut b) last
 unfolding readBlock
-block-goes u b s spans h = by (ltb 32768 (length b)) (readLines u start (cut b)) refl h
+block-goes u b s spans p h = by (ltb 32768 (length b)) (readLines u start (cut b)) refl h
   where
-    by : (long : Bool) (o : Outcome) → readLines u start (cut b) ≡ o → elim long [ true ↦ Unread 2 0 | false ↦ readingOf o ] ≡ Read s spans → (last : State) × Goes u start (cut b) last
+    by : (long : Bool) (o : Outcome) → readLines u start (cut b) ≡ o → elim long [ true ↦ Unread 2 0 | false ↦ readingOf o ] ≡ Read s spans p → (last : State) × Goes u start (cut b) last
     by true o e h = let z : _≡_ {A = ℕ} 0 1 = cc in absurd (omega arith)
     by false (Accepted last) e h = (last, accepted-by u (cut b) start last e .goes)
-    by false (Refused n p) e h = let z : _≡_ {A = ℕ} 0 1 = cc in absurd (omega arith)
+    by false (Refused n q) e h = let z : _≡_ {A = ℕ} 0 1 = cc in absurd (omega arith)
 
 first-title : (u : Rules) (l : Bytes) (next : State) → lineStep u start l ≡ Go next → titleLine l ≡ true
 unfolding lineStep start
@@ -216,15 +217,15 @@ module _ (s : Structure) (texts : List Bytes) where
   unfolding concat printRecord bytes
   front-some = omega arith
 
-  pub form-lines : (u : Rules) (x : Structure) (spans : List Span) → readBlock u (canonical s texts) ≡ Read x spans → OneBlock (canonical s texts)
+  pub form-lines : (u : Rules) (x : Structure) (spans : List Span) (p : Geometry) → readBlock u (canonical s texts) ≡ Read x spans p → OneBlock (canonical s texts)
   unfolding titleLine endLine
-  form-lines u x spans h =
+  form-lines u x spans p h =
       let c = cut-first (concat front) front-some in
       let l : Bytes = take (lineLen (concat front)) (concat front) in
       let ls : List Bytes = cut (drop (lineLen (concat front)) (concat front)) in
       let e : Bytes = bytes "##END=\n" in
       let lines : cut (canonical s texts) ≡ l ∷ (ls ++ (e ∷ [])) = form-cut ∙ ap (λ (r : List Bytes). r ++ (e ∷ [])) c in
-      let g = block-goes u (canonical s texts) x spans h in
+      let g = block-goes u (canonical s texts) x spans p h in
       let goes : Goes u start (l ∷ (ls ++ (e ∷ []))) (g .0) = rw lines at (g .1) in
       let title : titleLine l ≡ true = first-title u l (goes .0) (goes .1) in
       record {

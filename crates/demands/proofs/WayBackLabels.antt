@@ -10,14 +10,14 @@ use lib.Dec.{eqb, ltb}
 use borrow.Author.Tests.{not-true}
 use Rattle.lists.specs.Lists.{isNil, all, any}
 use Rattle.lists.proofs.Bools.{not-of-false}
-use Rattle.lists.proofs.ListLaws.{all-parts, all-both, all-nil, all-append-both, any-neither, any-cons, any-imply}
+use Rattle.lists.proofs.ListLaws.{all-parts, all-both, all-nil, all-append-both, any-neither, any-cons, any-imply, any-miss}
 use Rattle.format.specs.Bytes.{Bytes, bytes, allowed}
 use Rattle.format.specs.Labels.{ListOf, Bonds, Charges, Radicals, Centres, Pairs, Holds, Text, Version, Formula, BlockId, Atoms, Rows, End, Label, label, misplaced, Labelled, lineOf, titleLine}
 use Rattle.format.specs.Reading.{Rules, State, lacks, over, noted, opened, valueTurn, lineStep}
 use Rattle.format.specs.Writing.{listLabel}
 use Rattle.format.proofs.CutLaws.{feedless}
 use Rattle.format.proofs.Computing.{computing}
-use Rattle.demands.proofs.WayBackLines.{stateOf, label-step}
+use Rattle.demands.proofs.WayBackLines.{stateWith, label-step}
 
 abbrev pub titleLabel : Label
 titleLabel = label "TITLE" (Text 0) 1 1 1
@@ -146,8 +146,20 @@ lacks-more y seen c h = go (eqb (y .code) c) refl
     go true e = rw (any-cons (λ (x : Label). eqb (x .code) c) y seen, e)
     go false e = rw (any-cons (λ (x : Label). eqb (x .code) c) y seen, e) h
 
+lacks-other : (y : Label) (seen : List Label) (c : ℕ) → eqb (y .code) c ≡ false → lacks (y ∷ seen) c ≡ lacks seen c
+unfolding lacks
+lacks-other y seen c h = ap not (any-miss (λ (x : Label). eqb (x .code) c) y seen h)
+
 pub had-more : (y : Label) (seen : List Label) (cs : List ℕ) → any (lacks seen) cs ≡ false → any (lacks (y ∷ seen)) cs ≡ false
 had-more y seen cs h = any-imply (lacks seen) (lacks (y ∷ seen)) (lacks-more y seen) cs h
+
+-- and one that has not been seen is lacking, behind any other
+pub spare-more : (y : Label) (seen : List Label) (cs : List ℕ) → all (λ c. not (eqb (y .code) c)) cs ≡ true → all (lacks seen) cs ≡ true → all (lacks (y ∷ seen)) cs ≡ true
+spare-more y seen [] f h = all-nil (lacks (y ∷ seen))
+spare-more y seen (c ∷ cs) f h =
+    let p : (not (eqb (y .code) c) ≡ true) × (all (λ d. not (eqb (y .code) d)) cs ≡ true) = all-parts (λ d. not (eqb (y .code) d)) c cs f in
+    let q : (lacks seen c ≡ true) × (all (lacks seen) cs ≡ true) = all-parts (lacks seen) c cs h in
+    all-both (lacks (y ∷ seen)) c cs (lacks-other y seen c (not-true (eqb (y .code) c) (p .0)) ∙ q .0) (spare-more y seen cs (p .1) (q .1))
 
 -- THE STEP of a label line as it is written: its value's turn, the label among the seen
 pub noted-known : (c : ℕ) (x : Label) (seen : List Label) → eqb c 0 ≡ false → noted c x seen ≡ x ∷ seen
@@ -155,10 +167,10 @@ noted-known c x seen e = rw (e, noted)
 
 module _ (u : Rules) (st : State) (h : Bytes) (x : Label) (w : Written h x) (begun : isNil (st .seen) ≡ false) (m : misplaced (st .seen) x ≡ false) (o : over (st .running) ≡ false) where
   pub label-value : (held : Holds) → x .holds ≡ held → eqb (x .code) 0 ≡ false → (v : Bytes) → all allowed v ≡ true →
-      lineStep u st (h ++ v) ≡ valueTurn u held (stateOf (st .at) (x ∷ st .seen) held (st .texts) (st .formula) (st .body)) (st .at + length h) v
+      lineStep u st (h ++ v) ≡ valueTurn u held (stateWith (st .geometry) (st .at) (x ∷ st .seen) held (st .texts) (st .formula) (st .body)) (st .at + length h) v
   label-value held e c v a =
       let n : length (h ++ v) - length v ≡ length h = omega (arith, length-append h v) in
       label-step u st (h ++ v) (all-append-both allowed h v (w .fine) a) begun x v (w .read v) m o
       ∙ ap (λ (k : ℕ). valueTurn u (x .holds) (opened st x) (st .at + k) v) n
-      ∙ ap (λ (l : List Label). valueTurn u (x .holds) (stateOf (st .at) l (x .holds) (st .texts) (st .formula) (st .body)) (st .at + length h) v) (noted-known (x .code) x (st .seen) c)
-      ∙ ap (λ (k : Holds). valueTurn u k (stateOf (st .at) (x ∷ st .seen) k (st .texts) (st .formula) (st .body)) (st .at + length h) v) e
+      ∙ ap (λ (l : List Label). valueTurn u (x .holds) (stateWith (st .geometry) (st .at) l (x .holds) (st .texts) (st .formula) (st .body)) (st .at + length h) v) (noted-known (x .code) x (st .seen) c)
+      ∙ ap (λ (k : Holds). valueTurn u k (stateWith (st .geometry) (st .at) (x ∷ st .seen) k (st .texts) (st .formula) (st .body)) (st .at + length h) v) e

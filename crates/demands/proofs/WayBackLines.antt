@@ -10,6 +10,7 @@ use Rattle.lists.proofs.Bools.{and-left-false}
 use Rattle.lists.proofs.ListLaws.{all-append-both, all-imply, all-both}
 use Rattle.format.specs.Bytes.{Bytes, allowed, cut, isLabel}
 use Rattle.format.specs.Labels.{Holds, Label, misplaced, Plain, Labelled, lineOf}
+use Rattle.format.specs.Coordinates.{Geometry, noGeometry}
 use Rattle.format.specs.Structure.{Entry, Structure}
 use Rattle.format.specs.Writing.{valued}
 use Rattle.format.specs.Reading.{Rules, State, Prose, Go, past, over, opened, valueTurn, furtherTurn, lineStep, readLines}
@@ -18,9 +19,12 @@ use Rattle.format.proofs.FieldLaws.{inline, inline-allowed}
 use Rattle.format.proofs.RowLines.{full-snoc, inline-feedless}
 use Rattle.format.proofs.ReadingLaws.{step-on, line-plain, line-value, read-go}
 
--- a state by its six parts
+-- a state by its parts; a form has no geometry
+abbrev pub stateWith : Geometry → (at : ℕ) → (seen : List Label) → Holds → List Prose → List Entry → Structure → State
+stateWith p at seen running texts formula body = record { at = at; seen = seen; running = running; texts = texts; formula = formula; geometry = p; body = body }
+
 abbrev pub stateOf : (at : ℕ) → (seen : List Label) → Holds → List Prose → List Entry → Structure → State
-stateOf at seen running texts formula body = record { at = at; seen = seen; running = running; texts = texts; formula = formula; body = body }
+stateOf at seen running texts formula body = stateWith noGeometry at seen running texts formula body
 
 -- reading some bytes brings one state to another, whatever follows them
 abbrev pub Through : Rules → State → Bytes → State → Type 0

@@ -14,14 +14,15 @@ use Rattle.lists.proofs.PartLaws.{flat-nil, flat-behind}
 use Rattle.format.specs.Bytes.{Bytes, bytes, cut}
 use Rattle.format.specs.Labels.{ListOf, Bonds, Charges, Radicals, Centres, Pairs, Holds, End, Label, label, misplaced}
 use Rattle.format.specs.Rows.{Row}
+use Rattle.format.specs.Coordinates.{noGeometry}
 use Rattle.format.specs.Structure.{Atom, Entry, entriesOf, agree, Structure, rowsOf, lists, most, meets, rowBefore, rowOk, rowsOk}
 use Rattle.format.specs.Reading.{Rules, State, Prose, over, lacks, withRows, Accepted, readLines}
 use Rattle.format.specs.Writing.{valued, printRows}
 use Rattle.format.proofs.CutLaws.{cut-nil}
 use Rattle.format.proofs.ReadingLaws.{read-end}
 use Rattle.demands.proofs.WayBackLines.{stateOf}
-use Rattle.demands.proofs.WayBackLabels.{labelOf, endLabel, free, follows, had-more}
-use Rattle.demands.proofs.WayBackRows.{seenWith, runsWith, seen-begun, runs-open, seen-free, seen-had, list-through}
+use Rattle.demands.proofs.WayBackLabels.{labelOf, endLabel, free, follows, had-more, spare-more}
+use Rattle.demands.proofs.WayBackRows.{seenWith, runsWith, seen-begun, runs-open, seen-free, seen-had, seen-spare, list-through}
 use Rattle.demands.proofs.WayBackRecords.{end-through}
 
 -- WHAT A LIST OF A WELL-FORMED STRUCTURE KEEPS
@@ -49,6 +50,7 @@ pub record Stage (u : Rules) (first : State) (block : Bytes) (texts : List Prose
   pub runs : over running ≡ false
   pub clear : all (free seen) xs ≡ true
   pub had : any (lacks seen) (2 ∷ 3 ∷ 4 ∷ 5 ∷ []) ≡ false
+  pub spare : all (lacks seen) (14 ∷ 15 ∷ 16 ∷ []) ≡ true
   pub reads : readLines u first (cut block) ≡ readLines u (stateOf at seen running texts f s) (cut left)
 
 module _ (u : Rules) (first : State) (block : Bytes) (texts : List Prose) (f : List Entry) where
@@ -65,15 +67,21 @@ module _ (u : Rules) (first : State) (block : Bytes) (texts : List Prose) (f : L
         runs = runs-open l rs (g .running) (g .runs);
         clear = seen-free l rs (g .seen) xs after (c .1);
         had = seen-had l rs (g .seen) (2 ∷ 3 ∷ 4 ∷ 5 ∷ []) (g .had);
+        spare = seen-spare l rs (g .seen) (g .spare);
         reads = g .reads ∙ list-through u l (g .at) (g .seen) (g .running) texts f s (g .begun) (g .runs) (c .0) rs n small count held (fine .fine) (fine .apart) (fine .few) left;
       }
 
   -- END: the reading is accepted
+  end-spare : (seen : List Label) → all (lacks seen) (14 ∷ 15 ∷ 16 ∷ []) ≡ true → all (lacks (endLabel ∷ seen)) (14 ∷ 15 ∷ 16 ∷ []) ≡ true
+  unfolding label all
+  end-spare seen h = spare-more endLabel seen (14 ∷ 15 ∷ 16 ∷ []) refl h
+
   pub record AcceptedAs (s : Structure) : Type 0 where
     pub last : State
     pub reads : readLines u first (cut block) ≡ Accepted last
     pub texts-are : last .texts ≡ texts
     pub body-is : last .body ≡ s
+    pub geometry-is : last .geometry ≡ noGeometry
 
   pub end-stage : (s : Structure) → Stage u first block texts f s (endLabel ∷ []) ((bytes "##END=" ++ valued []) ++ []) → 0 < length (s .atoms) → agree f (entriesOf (s .atoms)) ≡ true → AcceptedAs s
   end-stage s g filled agrees =
@@ -83,10 +91,11 @@ module _ (u : Rules) (first : State) (block : Bytes) (texts : List Prose) (f : L
         last = last;
         reads =
             g .reads
-            ∙ end-through u (g .at) (g .seen) (g .running) f s (g .begun) (g .runs) texts (not-true (misplaced (g .seen) endLabel) (c .0)) (had-more endLabel (g .seen) (2 ∷ 3 ∷ 4 ∷ 5 ∷ []) (g .had)) filled agrees []
+            ∙ end-through u (g .at) (g .seen) (g .running) f s (g .begun) (g .runs) texts (not-true (misplaced (g .seen) endLabel) (c .0)) (had-more endLabel (g .seen) (2 ∷ 3 ∷ 4 ∷ 5 ∷ []) (g .had)) (end-spare (g .seen) (g .spare)) filled agrees []
             ∙ ap (readLines u last) cut-nil ∙ read-end u last;
         texts-are = refl;
         body-is = refl;
+        geometry-is = refl;
       }
 
 -- THE FIVE LISTS, all empty before

@@ -10,12 +10,13 @@ use lib.ListN.{length, length-append}
 use lib.Dec.{eqb}
 use borrow.Author.Tests.{ne-eqb}
 use Rattle.lists.specs.Lists.{isNil, all, any}
-use Rattle.lists.proofs.Bools.{or-neither}
+use Rattle.lists.proofs.Bools.{or-neither, and-right-false}
 use Rattle.lists.proofs.ListLaws.{all-append-both}
 use Rattle.format.specs.Bytes.{Bytes, bytes, allowed, fields, strip}
 use Rattle.format.specs.Labels.{Holds, Text, Version, BlockId, End, Skipped, Label, label, misplaced}
+use Rattle.format.specs.Coordinates.{exceeds, noGeometry}
 use Rattle.format.specs.Structure.{Entry, entriesOf, agree, Structure}
-use Rattle.format.specs.Reading.{Rules, State, Prose, prose, Go, over, withId, idTurn, lacks, endTurn, valueTurn, lineStep, start}
+use Rattle.format.specs.Reading.{Rules, State, Prose, prose, Go, over, withId, idTurn, lacks, endTurn, valueTurn, lineStep, start, partly}
 use Rattle.format.specs.Table.{textFine}
 use Rattle.format.specs.Writing.{digits, valued}
 use Rattle.format.proofs.FieldLaws.{inline, printed-inline, strip-value, value-back}
@@ -23,7 +24,7 @@ use Rattle.format.proofs.NumberLaws.{number-back, printed-number, digits-printe
 use Rattle.format.proofs.TextLaws.{valued-allowed}
 use Rattle.format.proofs.ReadingLaws.{step-on, line-value}
 use Rattle.format.proofs.Computing.{computing}
-use Rattle.demands.proofs.WayBackLines.{stateOf, Through, through-line, record-full, inline-fine}
+use Rattle.demands.proofs.WayBackLines.{stateWith, stateOf, Through, through-line, record-full, inline-fine}
 use Rattle.demands.proofs.WayBackLabels.{titleLabel, title-written, title-line, versionLabel, version-written, originLabel, origin-written, ownerLabel, owner-written, idLabel, id-written, endLabel, end-written, label-value}
 use Rattle.demands.proofs.WayBackTexts.{text-through, text-first}
 use Rattle.demands.proofs.WayBackRows.{three-pass, nothing-more, bare-full, bare-fine}
@@ -42,6 +43,15 @@ begin = stateOf 0 [] Skipped (threeTexts (prose 0 []) (prose 0 []) (prose 0 []))
 pub start-is : start ≡ begin
 unfolding start
 start-is = refl
+
+-- no record of the geometry has been seen, and none exceeds
+none-partly : (seen : List Label) (cs : List ℕ) → all (lacks seen) cs ≡ true → partly seen cs ≡ false
+unfolding partly
+none-partly seen cs e = and-right-false (any (lacks seen) cs) _ (ap not e)
+
+nothing-exceeds : exceeds noGeometry ≡ false
+unfolding exceeds any
+nothing-exceeds = refl
 
 -- TITLE, the first line
 none-seen : (x : Label) → misplaced [] x ≡ false
@@ -108,7 +118,7 @@ module _ (u : Rules) (at : ℕ) (seen : List Label) (running : Holds) (f : List 
         (label-value u there h versionLabel version-written begun m o Version refl refl (valued v) (valued-allowed v (inline-fine v version-inline)) ∙ version-value st (at + length h))
 
     -- BLOCK_ID
-    id-taken : (st : State) (n : ℕ) → suc n < 1000000 → idTurn st (fields (strip (valued (digits (suc n))))) ≡ Go (stateOf (st .at) (st .seen) (st .running) (st .texts) (st .formula) (withId (suc n) (st .body)))
+    id-taken : (st : State) (n : ℕ) → suc n < 1000000 → idTurn st (fields (strip (valued (digits (suc n))))) ≡ Go (stateWith (st .geometry) (st .at) (st .seen) (st .running) (st .texts) (st .formula) (withId (suc n) (st .body)))
     unfolding idTurn
     id-taken st n b =
         let w : Bytes = digits (suc n) in
@@ -127,16 +137,16 @@ module _ (u : Rules) (at : ℕ) (seen : List Label) (running : Holds) (f : List 
         (label-value u there h idLabel id-written begun m o BlockId refl refl (valued v) (valued-allowed v (inline-fine v i)) ∙ id-taken st n b)
 
     -- END
-    pub end-through : misplaced seen endLabel ≡ false → any (lacks (endLabel ∷ seen)) (2 ∷ 3 ∷ 4 ∷ 5 ∷ []) ≡ false → 0 < length (s .atoms) → agree f (entriesOf (s .atoms)) ≡ true →
+    pub end-through : misplaced seen endLabel ≡ false → any (lacks (endLabel ∷ seen)) (2 ∷ 3 ∷ 4 ∷ 5 ∷ []) ≡ false → all (lacks (endLabel ∷ seen)) (14 ∷ 15 ∷ 16 ∷ []) ≡ true → 0 < length (s .atoms) → agree f (entriesOf (s .atoms)) ≡ true →
         Through u there (bytes "##END=" ++ valued []) (stateOf (at + length (bytes "##END=" ++ valued [])) (endLabel ∷ seen) End texts f s)
     unfolding label valueTurn endTurn
-    end-through m l n g =
+    end-through m l z n g =
         let h : Bytes = bytes "##END=" in
         let st : State = stateOf at (endLabel ∷ seen) End texts f s in
         let a : (any (lacks (endLabel ∷ seen)) (2 ∷ 3 ∷ 4 ∷ 5 ∷ []) || eqb (length (s .atoms)) 0) ≡ false = or-neither (any (lacks (endLabel ∷ seen)) (2 ∷ 3 ∷ 4 ∷ 5 ∷ [])) _ l (ne-eqb (length (s .atoms)) 0 (λ q. omega arith)) in
         through-line u there st (h ++ valued []) (bare-full h (end-written .one))
         (label-value u there h endLabel end-written begun m o End refl refl (valued []) bare-fine
-        ∙ ap (endTurn u st) nothing-more ∙ three-pass _ false _ 8 9 15 (Go st) a refl (agreed (u .totals)))
+        ∙ ap (endTurn u st) nothing-more ∙ three-pass _ false _ 8 9 15 _ a refl (agreed (u .totals)) ∙ three-pass false _ _ 0 41 42 (Go st) refl (none-partly (endLabel ∷ seen) (14 ∷ 15 ∷ 16 ∷ []) z) nothing-exceeds)
       where
         agreed : (t : Bool) → (t && not (agree f (entriesOf (s .atoms)))) ≡ false
         agreed true = ap not g

@@ -19,7 +19,7 @@ use Rattle.lists.proofs.LexLaws.{ltb-strict}
 use Rattle.lists.proofs.FoldLaws.{reverse-perm}
 use Rattle.lists.proofs.SortLaws.{sort-alone, sort-back, ascends-apart}
 use Rattle.format.specs.Bytes.{Bytes, bytes, allowed, fields, strip, within, cut}
-use Rattle.format.specs.Labels.{ListOf, Bonds, Charges, Radicals, Centres, Pairs, Holds, Rows, Label, misplaced}
+use Rattle.format.specs.Labels.{ListOf, Bonds, Charges, Radicals, Centres, Pairs, Holds, Rows, Label, misplaced, label}
 use Rattle.format.specs.Rows.{Row, row, rowShape}
 use Rattle.format.specs.Structure.{Entry, Structure, rowsOf, most, ranged, meets, clash, rowBefore, rowOk}
 use Rattle.format.specs.Reading.{Rules, State, Turn, Go, if_stop_else_, Prose, over, withRows, ordered, joinTurn, rowTurn, unlessBlank, rowLine, lacks, valueTurn, furtherTurn, lineStep, readLines}
@@ -31,7 +31,7 @@ use Rattle.format.proofs.RowLines.{RowLine}
 use Rattle.format.proofs.RowLaws.{FineRow, row-fine, shape-back, printed-row, row-some}
 use Rattle.format.proofs.OrderLaws.{row-strict, meets-symm, clash-none}
 use Rattle.demands.proofs.WayBackLines.{stateOf, Through, through-nil, through-both, through-to, through-line, plain-step, record-full}
-use Rattle.demands.proofs.WayBackLabels.{labelOf, list-written, list-holds, list-known, label-value, free, follows, free-more, had-more}
+use Rattle.demands.proofs.WayBackLabels.{labelOf, list-written, list-holds, list-known, label-value, free, follows, free-more, had-more, spare-more}
 
 -- A STRUCTURE WITH OTHER ROWS in a list
 pub with-atoms : (l : ListOf) (rs : List Row) (s : Structure) → withRows l rs s .atoms ≡ s .atoms
@@ -159,6 +159,14 @@ abbrev pub runsWith : ListOf → List Row → Holds → Holds
 runsWith l [] running = running
 runsWith l (r ∷ rs) running = Rows l
 
+list-spare : (l : ListOf) → all (λ c. not (eqb (labelOf l .code) c)) (14 ∷ 15 ∷ 16 ∷ []) ≡ true
+unfolding label all
+list-spare Bonds = refl
+list-spare Charges = refl
+list-spare Radicals = refl
+list-spare Centres = refl
+list-spare Pairs = refl
+
 module _ (l : ListOf) where
   pub seen-begun : (rs : List Row) (seen : List Label) → isNil seen ≡ false → isNil (seenWith l rs seen) ≡ false
   seen-begun [] seen h = h
@@ -175,6 +183,10 @@ module _ (l : ListOf) where
   pub seen-had : (rs : List Row) (seen : List Label) (cs : List ℕ) → any (lacks seen) cs ≡ false → any (lacks (seenWith l rs seen)) cs ≡ false
   seen-had [] seen cs h = h
   seen-had (r ∷ rs) seen cs h = had-more (labelOf l) seen cs h
+
+  pub seen-spare : (rs : List Row) (seen : List Label) → all (lacks seen) (14 ∷ 15 ∷ 16 ∷ []) ≡ true → all (lacks (seenWith l rs seen)) (14 ∷ 15 ∷ 16 ∷ []) ≡ true
+  seen-spare [] seen h = h
+  seen-spare (r ∷ rs) seen h = spare-more (labelOf l) seen (14 ∷ 15 ∷ 16 ∷ []) (list-spare l) h
 
 pub nothing-more : fields (strip (valued [])) ≡ []
 nothing-more = ap fields (strip-value [] (all-nil inline)) ∙ value-none

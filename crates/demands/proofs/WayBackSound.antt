@@ -2,7 +2,7 @@
 -- own reading, byte for byte. Serves document 01, demand 2. Assumes nothing.
 use Prim.Native.Nat.{ℕ, _+_, _*_, _≤_, min}
 use mathlib.Core.Path.{_≡_, refl, sym, ap, _∙_, subst}
-use mathlib.Core.Bool.{true, _&&_}
+use mathlib.Core.Bool.{true, _&&_, false}
 use mathlib.Core.List.{List, [], _∷_, _++_, map, append-assoc, append-nil}
 use native.Mathlib.Omega.{arith}
 use native.Mathlib.Nat.{min-eq-right}
@@ -19,7 +19,7 @@ use Rattle.format.specs.Bytes.{Bytes}
 use Rattle.format.specs.Labels.{ListOf, Bonds, Charges, Radicals, Centres, Pairs}
 use Rattle.format.specs.Structure.{Structure, rowsOf, lists, most, meets, groupOk, rowOk, wellFormed}
 use Rattle.format.specs.Reading.{Span}
-use Rattle.format.specs.Table.{width, atomCells, rowCells, rowsPart, counts, derived, encode, cell, countAt, atomAt, markedAt, bondAt, spreadAt, atomRecords, decode, spansOf, sameNumber, soundNumbers, textFine, textAt, textOk, sound, tableOf}
+use Rattle.format.specs.Table.{Lent, short, width, atomCells, rowCells, rowsPart, counts, derived, encode, cell, countAt, atomAt, markedAt, bondAt, spreadAt, atomRecords, decode, spansOf, sameNumber, soundNumbers, textFine, textAt, textOk, sound, readInto}
 use Rattle.format.specs.Writing.{canonical, formOf, writeResult}
 use Rattle.demands.specs.WayBack.{ReadBack, WrittenAgain}
 use Rattle.demands.proofs.WayBackLists.{lists-flat}
@@ -211,18 +211,18 @@ form-written k t b buffer long ok fits room =
 
 -- A FORM WRITTEN AGAIN FROM ITS OWN READING: it is accepted, the table that it is read into is sound, and that table's form is the form again
 pub written-again : (k : ℕ) (s : Structure) (t0 t1 t2 : Bytes) → k ≤ 103 → wellFormed k s ≡ true → all textFine (t0 ∷ t1 ∷ t2 ∷ []) ≡ true →
-    length (canonical s (t0 ∷ t1 ∷ t2 ∷ [])) ≤ 32768 → (into : List ℤ) → 3856 ≤ length into → WrittenAgain k (canonical s (t0 ∷ t1 ∷ t2 ∷ [])) into
+    length (canonical s (t0 ∷ t1 ∷ t2 ∷ [])) ≤ 32768 → (into : Lent) → short into ≡ false → WrittenAgain k (canonical s (t0 ∷ t1 ∷ t2 ∷ [])) into
 written-again k s t0 t1 t2 most-is ok fine fits into wide =
     let form : Bytes = canonical s (t0 ∷ t1 ∷ t2 ∷ []) in
     let R : ReadBack k s (t0 ∷ t1 ∷ t2 ∷ []) = way-back k s t0 t1 t2 most-is ok fine fits in
     let F : Fine k s = fine-structure k s ok in
-    let z : List ℤ = drop 3856 into in
+    let z : List ℤ = drop 3856 (into .table) in
     let t : List ℤ = encode s (R .title ∷ R .origin ∷ R .owner ∷ []) ++ z in
     let sound-is : sound k t form ≡ true = encoded-sound k s F (R .title) (R .origin) (R .owner) z ok form (R .sound-texts) in
     let same : formOf t form ≡ form = form-of k s F (R .title) (R .origin) (R .owner) z form ∙ ap (canonical s) (R .same-texts) in
     record {
       table = t;
-      reads = long-read k form into wide ∙ ap (tableOf z) (R .reads);
+      reads = long-read k form into wide ∙ ap (readInto into) (R .reads);
       sound-again = sound-is;
       same-form = same;
       writes = λ buffer room.

@@ -3,7 +3,7 @@
 use Prim.Native.Nat.{ℕ, zero, suc, _+_, _≤_}
 use mathlib.Core.Path.{_≡_, refl, sym, ap, _∙_}
 use mathlib.Core.Bool.{true, false}
-use mathlib.Core.List.{List, [], _∷_, _++_, map}
+use mathlib.Core.List.{List, [], _∷_, map}
 use native.Mathlib.Omega.{arith}
 use lib.ListN.{length, take, drop, length-drop}
 use lib.Seq.{length-take-le}
@@ -17,7 +17,7 @@ use Rattle.lists.proofs.PairLaws.{sameBy-eq}
 use Rattle.format.specs.Bytes.{Bytes}
 use Rattle.format.specs.Structure.{Structure, wellFormed}
 use Rattle.format.specs.Reading.{Span}
-use Rattle.format.specs.Table.{counts, encode, decode, spanAt, spansOf, sameNumber, soundNumbers, textFine, textAt, spanOk, textOk, sound, ReadResult, tableOf}
+use Rattle.format.specs.Table.{counts, encode, decode, spanAt, spansOf, sameNumber, soundNumbers, textFine, textAt, spanOk, textOk, sound, Lent, short, ReadResult, readInto}
 use Rattle.format.specs.Writing.{formOf}
 use Rattle.demands.specs.WayBack.{ReadBack, TableBack, withoutStarts}
 use Rattle.format.proofs.RefusedLaws.{long-read}
@@ -86,15 +86,15 @@ form-back : (k : ℕ) (t : List ℤ) (b : Bytes) → k ≤ 103 → Sound k t b �
 unfolding formOf spansOf rowsFrom
 form-back k t b most ok fits = way-back k (decode t) _ _ _ most (ok .structure) (ok .texts) fits
 
-pub table-back : (k : ℕ) (t : List ℤ) (b buffer : Bytes) (into : List ℤ) → k ≤ 103 → 3856 ≤ length t → sound k t b ≡ true → length (formOf t b) ≤ 32768 → length (formOf t b) ≤ length buffer →
-    3856 ≤ length into → TableBack k t b buffer into
+pub table-back : (k : ℕ) (t : List ℤ) (b buffer : Bytes) (into : Lent) → k ≤ 103 → 3856 ≤ length t → sound k t b ≡ true → length (formOf t b) ≤ 32768 → length (formOf t b) ≤ length buffer →
+    short into ≡ false → TableBack k t b buffer into
 unfolding formOf
 table-back k t b buffer into most long ok fits room wide =
     let S : Sound k t b = sound-parts k t b ok in
     let R : ReadBack k (decode t) (map (textAt b) (spansOf t)) = form-back k t b most S fits in
     let same : map (λ (x : Span). x .size) (R .title ∷ R .origin ∷ R .owner ∷ []) ≡ map (λ (x : Span). x .size) (spansOf t) =
     sizes-are (formOf t b) _ (R .sound-texts) ∙ ap (map (λ (s : Bytes). length s)) (R .same-texts) ∙ sym (sizes-are b (spansOf t) (S .placed)) in
-    let reads-as = long-read k (formOf t b) into wide ∙ ap (tableOf (drop 3856 into)) (R .reads) in
+    let reads-as = long-read k (formOf t b) into wide ∙ ap (readInto into) (R .reads) in
     record {
       title = R .title;
       origin = R .origin;
@@ -106,6 +106,6 @@ table-back k t b buffer into most long ok fits room wide =
           ∙ ap (λ (l : List Span). withoutStarts (encode (decode t) l)) (sym (three-spans t)) ∙ ap withoutStarts (S .numbers);
       same-texts = R .same-texts;
       sound-again =
-          ap (λ (r : ReadResult). sound k (r .table) (formOf t b)) reads-as
-          ∙ encoded-sound k (decode t) (fine-structure k (decode t) (S .structure)) (R .title) (R .origin) (R .owner) (drop 3856 into) (S .structure) (formOf t b) (R .sound-texts);
+          ap (λ (r : ReadResult). sound k (r .after .table) (formOf t b)) reads-as
+          ∙ encoded-sound k (decode t) (fine-structure k (decode t) (S .structure)) (R .title) (R .origin) (R .owner) (drop 3856 (into .table)) (S .structure) (formOf t b) (R .sound-texts);
     }

@@ -24,7 +24,7 @@ use Rattle.format.proofs.CutLaws.{feedless}
 use Rattle.format.proofs.FieldLaws.{valued-is}
 use Rattle.format.proofs.TextLaws.{Unlabelled, TextLines, text-back, text-fine, FineText, valued-allowed, trim-valued, lead-valued}
 use Rattle.format.proofs.ReadingLaws.{read-go}
-use Rattle.demands.proofs.WayBackLines.{stateOf, Through, plain-step}
+use Rattle.demands.proofs.WayBackLines.{stateWith, stateOf, Through, plain-step}
 use Rattle.demands.proofs.WayBackLabels.{Written, label-value}
 
 -- A TEXT THAT RUNS: `put` is the three texts with this one among them
@@ -74,11 +74,11 @@ module _ (u : Rules) (i : ℕ) (put : Prose → List Prose) (got : (y : Prose) �
 -- THE LABEL LINE OF A TEXT behind other records
 pub text-first : (u : Rules) (st : State) (h : Bytes) (x : Label) (i : ℕ) (put : Prose → List Prose) → Written h x → isNil (st .seen) ≡ false → misplaced (st .seen) x ≡ false →
     over (st .running) ≡ false → x .holds ≡ Text i → eqb (x .code) 0 ≡ false → ((z : Prose) → set (st .texts) i z ≡ put z) → (v : Bytes) → all allowed v ≡ true →
-    lineStep u st (h ++ v) ≡ Go (stateOf (st .at) (x ∷ st .seen) (Text i) (put (prose (st .at + length h) v)) (st .formula) (st .body))
+    lineStep u st (h ++ v) ≡ Go (stateWith (st .geometry) (st .at) (x ∷ st .seen) (Text i) (put (prose (st .at + length h) v)) (st .formula) (st .body))
 unfolding valueTurn
 text-first u st h x i put w b m o e c puts v a =
     label-value u st h x w b m o (Text i) e c v a
-    ∙ ap (λ (t : List Prose). Go (stateOf (st .at) (x ∷ st .seen) (Text i) t (st .formula) (st .body))) (puts (prose (st .at + length h) v))
+    ∙ ap (λ (t : List Prose). Go (stateWith (st .geometry) (st .at) (x ∷ st .seen) (Text i) t (st .formula) (st .body))) (puts (prose (st .at + length h) v))
 
 -- THE SPAN: where the text stands in the block
 abbrev pub spanned : (place : ℕ) → Bytes → Span

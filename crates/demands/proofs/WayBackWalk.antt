@@ -11,6 +11,7 @@ use Rattle.lists.proofs.ListLaws.{any-parts}
 use Rattle.lists.proofs.PartLaws.{concat-nil, concat-length}
 use Rattle.format.specs.Bytes.{Bytes}
 use Rattle.format.specs.Labels.{titleLine, endLine}
+use Rattle.format.specs.Coordinates.{noGeometry}
 use Rattle.format.specs.Structure.{Structure, wellFormed}
 use Rattle.format.specs.Reading.{strict}
 use Rattle.format.specs.Table.{textFine}
@@ -48,7 +49,7 @@ module _ (k : ℕ) (s : Structure) (t0 t1 t2 : Bytes) (most : k ≤ 103) (ok : w
   pub canonical-lines : OneBlock (canonical s (t0 ∷ t1 ∷ t2 ∷ []))
   canonical-lines =
       let R : ReadBack k s (t0 ∷ t1 ∷ t2 ∷ []) = way-back k s t0 t1 t2 most ok fine fits in
-      form-lines s (t0 ∷ t1 ∷ t2 ∷ []) (strict k) s (R .title ∷ R .origin ∷ R .owner ∷ []) (R .reads)
+      form-lines s (t0 ∷ t1 ∷ t2 ∷ []) (strict k) s (R .title ∷ R .origin ∷ R .owner ∷ []) noGeometry (R .reads)
 
   pub canonical-piece : pieces (canonical s (t0 ∷ t1 ∷ t2 ∷ [])) ≡ piece block 0 (length (canonical s (t0 ∷ t1 ∷ t2 ∷ []))) ∷ []
   canonical-piece = one-piece (canonical s (t0 ∷ t1 ∷ t2 ∷ [])) canonical-lines

@@ -1,18 +1,17 @@
--- The cases and worked examples of document 01, computed from the definitions. Assumes nothing.
-use Prim.Native.Nat.{ℕ}
+-- The cases and worked examples of document 01, and those of document 02, L2, computed from the definitions. Assumes nothing.
 use mathlib.Core.Path.{_≡_, refl}
 use mathlib.Core.Option.{some}
-use mathlib.Core.List.{List, [], _∷_, _++_, map}
+use mathlib.Core.List.{[], _∷_, _++_, map}
 use lib.ListN.{replicate}
-use lib.IntN.{ℤ, pos}
 use Rattle.format.specs.Bytes.{bytes}
-use Rattle.format.specs.Table.{zeros, readAnswer, readResult}
-use Rattle.format.specs.Writing.{WriteResult, writeResult}
+use Rattle.format.specs.Table.{lent, noughts, ample, readAnswer, readResult}
+use Rattle.format.specs.Writing.{writeResult}
 use Rattle.format.specs.Walking.{answers, block, stray, piece, Found, Finished, NotWalked, walkAt, nameOf, checkOf}
-use Rattle.demands.specs.Cases.{Case, judged}
+use Rattle.demands.specs.Cases.{judged}
 use Rattle.demands.specs.Starred.{starred}
 use Rattle.demands.specs.Neighbours.{neighbours}
-use Rattle.demands.specs.Examples.{formicInput, formicWritten, formicTable, neon, exampleFile, printedAll, exampleLines}
+use Rattle.demands.specs.Placings.{placings}
+use Rattle.demands.specs.Examples.{formicInput, formicWritten, formicTable, placedNeon, placedPositions, neon, exampleFile, printedAll, exampleLines}
 use Rattle.format.proofs.Computing.{computing}
 
 pub starred-hold : map judged starred ≡ map (λ c. c .answer) starred
@@ -23,14 +22,23 @@ pub neighbours-hold : map judged neighbours ≡ map (λ c. c .answer) neighbours
 unfolding computing judged neighbours
 neighbours-hold = refl
 
+pub placings-hold : map judged placings ≡ map (λ c. c .answer) placings
+unfolding computing judged placings
+placings-hold = refl
+
 -- formic acid is read to its table, and that table is written as document 01 has it; two bytes beyond stay
-pub formic-read : readResult 103 (bytes formicInput) (zeros 3856) ≡ readAnswer 0 0 formicTable
+pub formic-read : readResult 103 (bytes formicInput) ample ≡ readAnswer 0 0 (lent formicTable (noughts 1024))
 unfolding computing formicTable
 formic-read = refl
 
 pub formic-written : writeResult 103 formicTable (bytes formicInput) (replicate 158 7) ≡ record { number = 0; count = 156; buffer = bytes formicWritten ++ (7 ∷ 7 ∷ []) }
 unfolding computing formicTable
 formic-written = refl
+
+-- the positions of a block, number for number
+pub placed-read : readResult 103 (bytes placedNeon) ample .after .positions ≡ placedPositions
+unfolding computing placedPositions
+placed-read = refl
 
 -- the walk's example: its four lines, and single steps
 pub example-walked : printedAll (answers 103 exampleFile) ≡ some exampleLines

@@ -1,5 +1,5 @@
--- When a block is accepted, said of its lines and rows alone, without a reader's state: document 01, "Lines and labels", "Rows" and "Refusal numbers", each
--- sentence one field of `Obeys`. Where the reading judges line by line, this judges the whole block. Assumes nothing.
+-- When a block is accepted, said of its lines and rows alone, without a reader's state: document 01, "Lines and labels", "Rows" and "Refusal numbers", and
+-- document 02, L2, each sentence one field of `Obeys`. Where the reading judges line by line, this judges the whole block. Assumes nothing.
 use Prim.Native.Nat.{ℕ, suc, _+_, _≤_, _<_}
 use mathlib.Core.Path.{_≡_}
 use mathlib.Core.Bool.{Bool, true, false, _&&_, _||_, not}
@@ -10,12 +10,13 @@ use lib.Dec.{eqb, ltb, leb}
 use Rattle.lists.specs.Lists.{isNil, all, any, pairs, flat}
 use Rattle.lists.specs.Folding.{kept}
 use Rattle.format.specs.Bytes.{Bytes, bytes, within, same, gap, allowed, cut, fields, strip}
-use Rattle.format.specs.Labels.{ListOf, Bonds, Charges, Radicals, Centres, Pairs, Holds, Text, Version, Formula, BlockId, Atoms, Rows, End, Skipped, Label, Line, Plain, Unparted, Labelled, lineOf, titleLine, endLine}
+use Rattle.format.specs.Labels.{ListOf, Bonds, Charges, Radicals, Centres, Pairs, XyzOf, MaxXyz, XyzFactor, XyzRows, Holds, Text, Version, Formula, BlockId, Atoms, Rows, Xyz, End, Skipped, Label, Line, Plain, Unparted, Labelled, lineOf, titleLine, endLine}
 use Rattle.format.specs.Rows.{Row, AtomRow, number, field, atomShape, rowShape}
 use Rattle.format.specs.Formula.{Counted}
 use Rattle.format.specs.Grammar.{Says}
+use Rattle.format.specs.Coordinates.{XyzRow, xyzShape, Factor, factor, factorShape, geometry, exceeds}
 use Rattle.format.specs.Structure.{Isotope, isotope, unknown, massOk, Atom, most, ranged, meets, clash, Entry, entry, entriesOf, total}
-use Rattle.format.specs.Reading.{ordered, noted}
+use Rattle.format.specs.Reading.{ordered, noted, onlyField, partly}
 
 -- LINES. A line as it counts in its record, by what the record holds: "What follows `=` on a label line counts as the record's first line.", or a further line
 pub data Told : Type 0 where
@@ -70,6 +71,9 @@ named xs c = any (λ x. eqb (x .code) c) xs
 abbrev pub place : ListOf → ℕ
 place l = elim l [ Bonds ↦ 0 | Charges ↦ 1 | Radicals ↦ 2 | Centres ↦ 3 | Pairs ↦ 4 ]
 
+abbrev pub part : XyzOf → ℕ
+part x = elim x [ MaxXyz ↦ 0 | XyzFactor ↦ 1 | XyzRows ↦ 2 ]
+
 abbrev pub kind : Holds → ℕ
 kind (Text i) = 0
 kind Version = 1
@@ -79,6 +83,7 @@ kind Atoms = 4
 kind End = 5
 kind Skipped = 6
 kind (Rows l) = 7 + place l
+kind (Xyz x) = 12 + part x
 
 abbrev pub onlyIf : Bool → Bytes → List Bytes
 onlyIf true l = l ∷ []
@@ -140,6 +145,24 @@ versionFine fs = same (field 0 fs) (bytes "3.7") && isNil (drop 1 fs)
 abbrev pub idFine : List Bytes → Bool
 idFine fs = fits (λ n. isNil (drop 1 fs) && not (eqb n 0)) (number (field 0 fs))
 
+-- L2: "MAX_XYZ is unsigned, 1 to 6 digits"; the factor is "1 to 9 digits with at most one point", not zero; "Both stand on their label line; an empty one or a further
+-- row is 9". "Rows are an atom and three signed numbers of 1 to 6 digits"
+abbrev pub greatestFine : List Bytes → Bool
+greatestFine fs = fits (λ n. true) (number (onlyField fs))
+
+abbrev pub factorFine : List Bytes → Bool
+factorFine fs = fits (λ f. not (eqb (f .digits) 0)) (factorShape (onlyField fs))
+
+abbrev pub xyzFine : XyzOf → List Bytes → Bool
+xyzFine MaxXyz fs = greatestFine fs
+xyzFine XyzFactor fs = factorFine fs
+xyzFine XyzRows fs = rowFits xyzShape (λ r. true) fs
+
+abbrev pub xyzFurtherFine : XyzOf → Bytes → Bool
+xyzFurtherFine MaxXyz l = all gap l
+xyzFurtherFine XyzFactor l = all gap l
+xyzFurtherFine XyzRows l = rowFits xyzShape (λ r. true) (fields l)
+
 -- of MOLFORM's value the grammar judges, in `Obeys`
 abbrev pub valueRule : (k : ℕ) → Holds → Bytes → Bool
 valueRule k (Text i) v = true
@@ -148,6 +171,7 @@ valueRule k Formula v = true
 valueRule k BlockId v = idFine (fields (strip v))
 valueRule k Atoms v = rowFits atomShape (atomFine k) (fields (strip v))
 valueRule k (Rows l) v = rowFits (rowShape l) (rowFine l) (fields (strip v))
+valueRule k (Xyz x) v = xyzFine x (fields (strip v))
 valueRule k End v = isNil (fields (strip v))
 valueRule k Skipped v = true
 
@@ -159,6 +183,7 @@ furtherRule k Formula l = all gap (strip l)
 furtherRule k BlockId l = all gap (strip l)
 furtherRule k Atoms l = rowFits atomShape (atomFine k) (fields (strip l))
 furtherRule k (Rows r) l = rowFits (rowShape r) (rowFine r) (fields (strip l))
+furtherRule k (Xyz x) l = xyzFurtherFine x (strip l)
 furtherRule k End l = true
 furtherRule k Skipped l = true
 
@@ -183,6 +208,20 @@ listRows l b = map ordered (rowsBy (rowShape l) (flat (lineIn (Rows l)) (toldOf 
 
 abbrev pub molforms : Bytes → List Bytes
 molforms b = flat (valueIn Formula) (toldOf b)
+
+abbrev pub firstOr : {A : Type 0} → A → List A → A
+firstOr a [] = a
+firstOr a (x ∷ xs) = x
+
+-- what the block says of its geometry: the rows of XYZ in their order, MAX_XYZ, the factor
+abbrev pub xyzRows : Bytes → List XyzRow
+xyzRows b = rowsBy xyzShape (flat (lineIn (Xyz XyzRows)) (toldOf b))
+
+abbrev pub greatestIn : Bytes → ℕ
+greatestIn b = firstOr 0 (flat (λ v. listed (number (onlyField (fields (strip v))))) (flat (valueIn (Xyz MaxXyz)) (toldOf b)))
+
+abbrev pub factorIn : Bytes → Factor
+factorIn b = firstOr (factor 0 0) (flat (λ v. listed (factorShape (onlyField (fields (strip v))))) (flat (valueIn (Xyz XyzFactor)) (toldOf b)))
 
 pub record Obeys (k : ℕ) (b : Bytes) : Type 0 where
   -- "The longest block has 32,768 bytes." "Allowed bytes: 9, 10, 13 and 32 to 126."
@@ -212,6 +251,11 @@ pub record Obeys (k : ℕ) (b : Bytes) : Type 0 where
   pub required : all (named (labels (cut b))) (2 ∷ 3 ∷ 4 ∷ 5 ∷ []) ≡ true
   -- "for every element and mass, the formula's total over all fragments equals the atoms listed, with implied hydrogens counted as hydrogen without mass"
   pub totals : (i : Isotope) → total i (entriesAs k (some formula)) ≡ total i (entriesOf (map (atomOf k) (atomRows b)))
+  -- L2: the rows of XYZ name listed atoms, ascending; MAX_XYZ, XYZ_FACTOR and XYZ are there together or not at all; no value is above MAX_XYZ
+  pub xyz-listed : all (λ r. within 1 (length (atomRows b)) (r .atom)) (xyzRows b) ≡ true
+  pub xyz-ascending : pairs (λ q r. leb (r .atom) (q .atom)) (xyzRows b) ≡ false
+  pub xyz-together : partly (labels (cut b)) (14 ∷ 15 ∷ 16 ∷ []) ≡ false
+  pub xyz-bounded : exceeds (geometry (greatestIn b) (factorIn b) (xyzRows b)) ≡ false
   -- an END line stands there, and behind it only blanks
   pub end-there : any endLine (cut b) ≡ true
   pub end-last : all (all gap) (behindEnd (cut b)) ≡ true

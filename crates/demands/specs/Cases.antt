@@ -17,7 +17,7 @@ abbrev pub _gives_at_ : String → (number place : ℕ) → Case
 b gives n at p = record { block = b; answer = record { number = n; place = p } }
 
 abbrev pub answerOf : Reading → Answer
-answerOf (Read s spans) = record { number = 0; place = 0 }
+answerOf (Read s spans p) = record { number = 0; place = 0 }
 answerOf (Unread n p) = record { number = n; place = p }
 
 -- what the definitions answer, with the 103 elements of today

@@ -1,55 +1,63 @@
--- The three demands of document 01, each one record of its statements, for the elements 1 to k: what the front file proves for every k in its range, here for one.
--- Assumes nothing.
+-- The three demands of document 01, as document 02, L2, has changed them, each one record of its statements, for the elements 1 to k: what the front file proves
+-- for every k in its range, here for one. Assumes nothing.
 use Prim.Native.Nat.{ℕ, _+_, _<_, _≤_}
 use mathlib.Core.Path.{_≡_}
-use mathlib.Core.Bool.{true}
+use mathlib.Core.Logic.{_⊎_}
+use mathlib.Core.Bool.{true, false}
 use mathlib.Core.Option.{some}
 use mathlib.Core.List.{List, [], _∷_, _++_, map}
 use lib.ListN.{length, drop}
 use lib.IntN.{ℤ}
 use lib.Dec.{ltb}
+use lib.Ieee.{Float}
 use Rattle.lists.specs.Lists.{all, any}
 use Rattle.format.specs.Bytes.{Bytes, isIn, cut, whole}
 use Rattle.format.specs.Labels.{endLine}
+use Rattle.format.specs.Coordinates.{Geometry, positionTable}
 use Rattle.format.specs.Structure.{Structure, wellFormed}
 use Rattle.format.specs.Reading.{strict, Span, Read, readBlock}
-use Rattle.format.specs.Table.{zeros, encode, textFine, textAt, sound, readAnswer, readResult}
+use Rattle.format.specs.Table.{zeros, encode, textFine, textAt, sound, Lent, lent, noughts, short, overlaid, readAnswer, readResult}
 use Rattle.format.specs.Writing.{canonical, formOf, unwritten, writtenAs, writeResult}
 use Rattle.format.specs.Walking.{block, piece, pieces, Answer, toldOf, answers}
 use Rattle.demands.specs.Stretches.{closing, opening, moved, _then_, textsTold, textsFrom}
 use Rattle.demands.specs.WayBack.{ReadBack, TableBack, WrittenAgain, OneBlock}
 use Rattle.demands.specs.Accepted.{Obeys, _exactlyWhen_}
-use Rattle.demands.specs.ReadAs.{structureIn, spansIn}
+use Rattle.demands.specs.ReadAs.{structureIn, spansIn, geometryIn}
 use Rattle.demands.specs.ReadWritten.{formIn}
+use Rattle.demands.specs.Positions.{PositionTold}
 
 pub record Demand1 (k : ℕ) : Type 0 where
-  -- "A refused reading zeroes the structure table, save where that table is too short and is untouched."
-  pub refused-zero : (b : Bytes) (t : List ℤ) → 3856 ≤ length t → (readResult k b t .number ≡ 0 → ⊥) → readResult k b t .table ≡ zeros 3856 ++ drop 3856 t
-  pub short-untouched : (b : Bytes) (t : List ℤ) → length t < 3856 → readResult k b t ≡ readAnswer 1 0 t
+  -- "A refused reading zeroes the structure table, save where that table is too short and is untouched."; L2: positions are "cleared on refusals other than 1"; "a short
+  -- position table is 1, nothing touched"
+  pub refused-zero : (b : Bytes) (t : List ℤ) (p : List Float) → 3856 ≤ length t → 1024 ≤ length p → (readResult k b (lent t p) .number ≡ 0 → ⊥) →
+      readResult k b (lent t p) .after ≡ lent (zeros 3856 ++ drop 3856 t) (noughts 1024 ++ drop 1024 p)
+  pub short-untouched : (b : Bytes) (t : List ℤ) (p : List Float) → (length t < 3856) ⊎ (length p < 1024) → readResult k b (lent t p) ≡ readAnswer 1 0 (lent t p)
   -- "A refused writing changes nothing."
   pub refused-write : (t : List ℤ) (b buffer : Bytes) → (writeResult k t b buffer .number ≡ 0 → ⊥) → writeResult k t b buffer ≡ unwritten (writeResult k t b buffer .number) buffer
 
 pub record Demand2 (k : ℕ) : Type 0 where
   -- a block is accepted exactly when it obeys, and is then read to its table, which is sound
-  pub accepted-iff : (b : Bytes) (t : List ℤ) → 3856 ≤ length t → (readResult k b t .number ≡ 0) exactlyWhen Obeys k b
-  pub table-is : (b : Bytes) (t : List ℤ) → 3856 ≤ length t → Obeys k b → readResult k b t ≡ readAnswer 0 0 (encode (structureIn k b) (spansIn b) ++ drop 3856 t)
-  pub read-sound : (b : Bytes) (s : Structure) (spans : List Span) → readBlock (strict k) b ≡ Read s spans →
+  pub accepted-iff : (b : Bytes) (l : Lent) → short l ≡ false → (readResult k b l .number ≡ 0) exactlyWhen Obeys k b
+  pub table-is : (b : Bytes) (l : Lent) → short l ≡ false → Obeys k b → readResult k b l ≡ readAnswer 0 0 (overlaid (encode (structureIn k b) (spansIn b)) (positionTable (geometryIn b)) l)
+  pub read-sound : (b : Bytes) (s : Structure) (spans : List Span) (g : Geometry) → readBlock (strict k) b ≡ Read s spans g →
       (wellFormed k s ≡ true) × (all textFine (map (textAt b) spans) ≡ true) × (sound k (encode s spans) b ≡ true)
-  pub accepted-sound : (b : Bytes) (t : List ℤ) → 3856 ≤ length t → readResult k b t .number ≡ 0 → sound k (readResult k b t .table) b ≡ true
+  pub accepted-sound : (b : Bytes) (l : Lent) → short l ≡ false → readResult k b l .number ≡ 0 → sound k (readResult k b l .after .table) b ≡ true
+  -- L2: a position is given exactly when a row of XYZ names the atom, and is then that row's
+  pub positions-given : (b : Bytes) (l : Lent) → short l ≡ false → readResult k b l .number ≡ 0 → (n : ℕ) → 1 ≤ n → n ≤ 256 → PositionTold b n (readResult k b l .after .positions)
   -- what was read can be written, and read again it is the same table with the same texts
-  pub read-written : (b : Bytes) (t : List ℤ) → 3856 ≤ length t → readResult k b t .number ≡ 0 → (buffer : Bytes) →
-      writeResult k (readResult k b t .table) b buffer ≡ writtenAs (ltb 32768 (length (formIn k b))) (ltb (length buffer) (length (formIn k b))) (formIn k b) buffer
-  pub read-then-written : (b : Bytes) (t : List ℤ) → 3856 ≤ length t → readResult k b t .number ≡ 0 → (buffer : Bytes) →
-      isIn (writeResult k (readResult k b t .table) b buffer .number) (0 ∷ 22 ∷ 23 ∷ []) ≡ true
-  pub read-written-read : (b : Bytes) (t : List ℤ) → 3856 ≤ length t → readResult k b t .number ≡ 0 → (buffer : Bytes) (into : List ℤ) →
-      length (formOf (readResult k b t .table) b) ≤ 32768 → length (formOf (readResult k b t .table) b) ≤ length buffer → 3856 ≤ length into → TableBack k (readResult k b t .table) b buffer into
+  pub read-written : (b : Bytes) (l : Lent) → short l ≡ false → readResult k b l .number ≡ 0 → (buffer : Bytes) →
+      writeResult k (readResult k b l .after .table) b buffer ≡ writtenAs (ltb 32768 (length (formIn k b))) (ltb (length buffer) (length (formIn k b))) (formIn k b) buffer
+  pub read-then-written : (b : Bytes) (l : Lent) → short l ≡ false → readResult k b l .number ≡ 0 → (buffer : Bytes) →
+      isIn (writeResult k (readResult k b l .after .table) b buffer .number) (0 ∷ 22 ∷ 23 ∷ []) ≡ true
+  pub read-written-read : (b : Bytes) (l : Lent) → short l ≡ false → readResult k b l .number ≡ 0 → (buffer : Bytes) (into : Lent) →
+      length (formOf (readResult k b l .after .table) b) ≤ 32768 → length (formOf (readResult k b l .after .table) b) ≤ length buffer → short into ≡ false → TableBack k (readResult k b l .after .table) b buffer into
   -- the written form is read to what it was written from, and is one block
   pub way-back : (s : Structure) (title origin owner : Bytes) → wellFormed k s ≡ true → all textFine (title ∷ origin ∷ owner ∷ []) ≡ true →
       length (canonical s (title ∷ origin ∷ owner ∷ [])) ≤ 32768 → ReadBack k s (title ∷ origin ∷ owner ∷ [])
-  pub table-back : (t : List ℤ) (b buffer : Bytes) (into : List ℤ) → 3856 ≤ length t → sound k t b ≡ true → length (formOf t b) ≤ 32768 → length (formOf t b) ≤ length buffer →
-      3856 ≤ length into → TableBack k t b buffer into
+  pub table-back : (t : List ℤ) (b buffer : Bytes) (into : Lent) → 3856 ≤ length t → sound k t b ≡ true → length (formOf t b) ≤ 32768 → length (formOf t b) ≤ length buffer →
+      short into ≡ false → TableBack k t b buffer into
   pub written-again : (s : Structure) (title origin owner : Bytes) → wellFormed k s ≡ true → all textFine (title ∷ origin ∷ owner ∷ []) ≡ true →
-      length (canonical s (title ∷ origin ∷ owner ∷ [])) ≤ 32768 → (into : List ℤ) → 3856 ≤ length into → WrittenAgain k (canonical s (title ∷ origin ∷ owner ∷ [])) into
+      length (canonical s (title ∷ origin ∷ owner ∷ [])) ≤ 32768 → (into : Lent) → short into ≡ false → WrittenAgain k (canonical s (title ∷ origin ∷ owner ∷ [])) into
   pub canonical-lines : (s : Structure) (title origin owner : Bytes) → wellFormed k s ≡ true → all textFine (title ∷ origin ∷ owner ∷ []) ≡ true →
       length (canonical s (title ∷ origin ∷ owner ∷ [])) ≤ 32768 → OneBlock (canonical s (title ∷ origin ∷ owner ∷ []))
   pub canonical-piece : (s : Structure) (title origin owner : Bytes) → wellFormed k s ≡ true → all textFine (title ∷ origin ∷ owner ∷ []) ≡ true →
@@ -63,4 +71,4 @@ pub record Demand3 (k : ℕ) : Type 0 where
   pub refused-texts : (b : Bytes) → (Obeys k b → ⊥) → textsTold (toldOf k block b) ≡ [] ∷ [] ∷ [] ∷ []
   pub texts-told : (s : Bytes) (l : List Answer) → answers k s ≡ some l → map (λ a. textsTold (a .told)) l ≡ map (λ a. textsFrom (a .of .from) s (a .told)) l
   -- "No block without an END line is accepted."
-  pub accepted-has-end : (b : Bytes) (t : List ℤ) → readResult k b t .number ≡ 0 → any endLine (cut b) ≡ true
+  pub accepted-has-end : (b : Bytes) (l : Lent) → readResult k b l .number ≡ 0 → any endLine (cut b) ≡ true

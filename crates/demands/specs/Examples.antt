@@ -1,12 +1,16 @@
--- The worked examples of document 01: formic acid as it is read and as it is written, and the file of "Walking a transfer file". Assumes nothing.
+-- The worked examples of document 01: formic acid as it is read and as it is written, and the file of "Walking a transfer file"; and one of document 02, L2: a block with
+-- positions. Assumes nothing.
 use Prim.Native.Nat.{ℕ, zero, suc, _+_}
 use Prim.Native.String.{String}
+use mathlib.Core.Bool.{true, false}
 use mathlib.Core.Option.{Option, none, some}
 use mathlib.Core.List.{List, [], _∷_, _++_, map}
 use lib.ListN.{getD}
-use lib.IntN.{ℤ, pos, natAbs}
+use lib.IntN.{ℤ, pos, negsuc, natAbs}
+use lib.Ieee.{Float, fin}
 use Rattle.format.specs.Bytes.{Bytes, bytes}
-use Rattle.format.specs.Table.{zeros, ReadResult}
+use Rattle.format.specs.Coordinates.{nought}
+use Rattle.format.specs.Table.{zeros, noughts}
 use Rattle.format.specs.Walking.{Told, StrayRun, BlockRead, Answer}
 
 -- "This input:"
@@ -25,6 +29,17 @@ formicTable =
     ∷ pos 8 ∷ pos 0 ∷ pos 0 ∷ pos 0 ∷ pos 0
     ∷ pos 8 ∷ pos 0 ∷ pos 1 ∷ pos 0 ∷ pos 0 ∷ (zeros 1265
     ++ (pos 1 ∷ pos 2 ∷ pos 2 ∷ pos 1 ∷ pos 3 ∷ pos 1 ∷ zeros 2554))))
+
+-- L2: three neon atoms of which the first and the third have a position. With the factor 0.1, 3 gives 0.3 (the product by the float 0.1 would be 0.30000000000000004),
+-- -7 gives -0.7, -0 gives 0, 10 gives 1, 1 gives 0.1: the odd numbers below, times powers of two, are the doubles next to these
+abbrev pub placedNeon : String
+placedNeon = "##TITLE= a\n##JCAMP-CS= 3.7\n##ORIGIN= b\n##OWNER= c\n##MOLFORM= Ne3\n##ATOMLIST=\n1 Ne\n2 Ne\n3 Ne\n##MAX_XYZ= 10\n##XYZ_FACTOR= 0.1\n##XYZ=\n1 3 -7 -0\n3 10 0 1\n##END=\n"
+
+unfoldable pub placedPositions : List Float
+placedPositions =
+    fin false 1 (pos 0) ∷ fin false 5404319552844595 (negsuc 53) ∷ fin true 3152519739159347 (negsuc 51) ∷ nought
+    ∷ nought ∷ nought ∷ nought ∷ nought
+    ∷ fin false 1 (pos 0) ∷ fin false 1 (pos 0) ∷ nought ∷ fin false 3602879701896397 (negsuc 54) ∷ noughts 1012
 
 -- "That block, the line `junk`, the block with `2 Ne` instead, and a lone `##TITLE= a` line"
 abbrev pub neon : String
@@ -48,7 +63,7 @@ placeInFile (suc n) from place = from + place
 abbrev pub printedAs : (from to : ℕ) → Told → Printed
 printedAs from to StrayRun = S from to
 printedAs from to (BlockRead r texts) =
-    B from to (r .number) (placeInFile (r .number) from (r .place)) (natAbs (getD (r .table) 0 (pos 0))) (natAbs (getD (r .table) 1 (pos 0)))
+    B from to (r .number) (placeInFile (r .number) from (r .place)) (natAbs (getD (r .after .table) 0 (pos 0))) (natAbs (getD (r .after .table) 1 (pos 0)))
 
 abbrev pub printed : Answer → Printed
 printed a = printedAs (a .of .from) (a .of .to) (a .told)

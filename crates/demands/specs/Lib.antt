@@ -2,10 +2,12 @@
 pub mod Cases
 pub mod Starred
 pub mod Neighbours
+pub mod Placings
 pub mod Examples
 pub mod Stretches
 pub mod WayBack
 pub mod Accepted
+pub mod Positions
 pub mod ReadAs
 pub mod ReadWritten
 pub mod Places

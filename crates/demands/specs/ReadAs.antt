@@ -2,19 +2,20 @@
 -- each list without repeats and sorted, the block id; the texts stand where their records do. Assumes nothing.
 use Prim.Native.Nat.{ℕ, _+_, _-_}
 use mathlib.Core.Bool.{Bool, true, false}
-use mathlib.Core.List.{List, [], _∷_, _++_, map}
+use mathlib.Core.List.{List, [], _∷_, _++_, map, reverse}
 use lib.ListN.{length}
 use lib.Dec.{eqb}
 use Rattle.lists.specs.Lists.{flat}
 use Rattle.lists.specs.Order.{sort}
 use Rattle.lists.specs.Folding.{kept}
 use Rattle.format.specs.Bytes.{Bytes, cut, fields, strip}
-use Rattle.format.specs.Labels.{ListOf, Bonds, Charges, Radicals, Centres, Pairs, Holds, Text, Version, Formula, BlockId, Atoms, Rows, End, Skipped, Line, Plain, Unparted, Labelled, lineOf}
+use Rattle.format.specs.Labels.{ListOf, Bonds, Charges, Radicals, Centres, Pairs, Holds, Text, Version, Formula, BlockId, Atoms, Rows, Xyz, End, Skipped, Line, Plain, Unparted, Labelled, lineOf}
 use Rattle.format.specs.Rows.{Row, number, field}
+use Rattle.format.specs.Coordinates.{Geometry, geometry}
 use Rattle.format.specs.Structure.{Structure, meets, rowBefore}
 use Rattle.format.specs.Reading.{Prose, prose, Span, spanOf}
 use Rattle.format.specs.Walking.{untilLabel, valueOf}
-use Rattle.demands.specs.Accepted.{listed, valueIn, toldOf, atomRows, listRows, atomOf}
+use Rattle.demands.specs.Accepted.{listed, valueIn, toldOf, atomRows, listRows, atomOf, xyzRows, greatestIn, factorIn}
 
 -- "block id (0 none)"
 abbrev pub idsIn : Bytes → List ℕ
@@ -49,6 +50,7 @@ holdsText i Formula = false
 holdsText i BlockId = false
 holdsText i Atoms = false
 holdsText i (Rows m) = false
+holdsText i (Xyz x) = false
 holdsText i End = false
 holdsText i Skipped = false
 
@@ -67,3 +69,7 @@ textFrom i at (l ∷ ls) = elim (startsText i (lineOf l)) [
 -- "start and length in the block of title, origin, owner (empty: 0, 0)"
 abbrev pub spansIn : Bytes → List Span
 spansIn b = map (λ i. spanOf (textFrom i 0 (cut b))) (0 ∷ 1 ∷ 2 ∷ [])
+
+-- L2: MAX_XYZ, the factor, and the rows of XYZ, latest first
+abbrev pub geometryIn : Bytes → Geometry
+geometryIn b = geometry (greatestIn b) (factorIn b) (reverse (xyzRows b))

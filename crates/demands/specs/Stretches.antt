@@ -58,7 +58,7 @@ textsTold (BlockRead r texts) = texts
 
 abbrev pub textsFrom : (start : ℕ) → (file : Bytes) → Told → List Bytes
 textsFrom start file StrayRun = []
-textsFrom start file (BlockRead r texts) = map (textAt (drop start file)) (spansOf (r .table))
+textsFrom start file (BlockRead r texts) = map (textAt (drop start file)) (spansOf (r .after .table))
 
 -- "every byte belongs to one answer and the lengths add up to the file's": each piece starts where the one before ended, and none is empty
 abbrev pub Chain : ℕ → List Piece → ℕ → Type 0

@@ -11,6 +11,7 @@ use Rattle.lists.specs.Lists.{isNil, all, any}
 use Rattle.lists.proofs.Bools.{torn}
 use Rattle.format.specs.Bytes.{Bytes, same, allowed, cut, isLabel}
 use Rattle.format.specs.Labels.{Skipped, Label, label, known, lookup, normal, misplaced, Parts, NoEquals, Parted, parts, partsLine, Line, Plain, Unparted, Labelled, lineOf, titleLine, endLine}
+use Rattle.format.specs.Coordinates.{Geometry}
 use Rattle.format.specs.Structure.{Structure}
 use Rattle.format.specs.Reading.{Rules, State, Turn, Go, Stop, if_stop_else_, over, opened, past, lineTurn, lineStep, Outcome, Accepted, Refused, ending, readLines, start, Span, Read, Unread, readingOf, readBlock}
 use Rattle.format.proofs.ReadingLaws.{read-go, read-stop, read-end, stop-keeps, if-keeps, value-keeps, further-keeps, Went, further, started, step-went, Goes, AcceptedBy, accepted-by}
@@ -92,11 +93,11 @@ module _ (u : Rules) where
       by true e x = e
       by false e x = torn (over (last .running)) (x .over-is) (not-over ls start last (x .goes) start-not-over e)
 
-  pub read-has-end : (b : Bytes) (s : Structure) (spans : List Span) → readBlock u b ≡ Read s spans → any endLine (cut b) ≡ true
+  pub read-has-end : (b : Bytes) (s : Structure) (spans : List Span) (p : Geometry) → readBlock u b ≡ Read s spans p → any endLine (cut b) ≡ true
   unfolding readBlock
-  read-has-end b s spans h = by (ltb 32768 (length b)) (readLines u start (cut b)) refl h
+  read-has-end b s spans p h = by (ltb 32768 (length b)) (readLines u start (cut b)) refl h
     where
-      by : (long : Bool) (o : Outcome) → readLines u start (cut b) ≡ o → elim long [ true ↦ Unread 2 0 | false ↦ readingOf o ] ≡ Read s spans → any endLine (cut b) ≡ true
+      by : (long : Bool) (o : Outcome) → readLines u start (cut b) ≡ o → elim long [ true ↦ Unread 2 0 | false ↦ readingOf o ] ≡ Read s spans p → any endLine (cut b) ≡ true
       by true o e h = let z : _≡_ {A = ℕ} 0 1 = cc in absurd (omega arith)
       by false (Accepted last) e h = accepted-end (cut b) last e
       by false (Refused n p) e h = let z : _≡_ {A = ℕ} 0 1 = cc in absurd (omega arith)

@@ -1,5 +1,8 @@
 -- The laws of the definitions, file by file. Assumes nothing.
 pub mod Computing
+pub mod HalfLaws
+pub mod CoordinateLaws
+pub mod PositionLaws
 pub mod Tables
 pub mod Places
 pub mod PlaceLaws

@@ -13,11 +13,12 @@ use lib.Dec.{eqb, leb}
 use Rattle.lists.specs.Lists.{isNil, all, any, pairs, concat}
 use Rattle.lists.proofs.PartLaws.{concat-length}
 use Rattle.format.specs.Bytes.{Bytes, within, same, bytes, allowed, gap, strip, fields}
-use Rattle.format.specs.Labels.{ListOf, Holds, Text, Version, Formula, BlockId, Atoms, Rows, End, Skipped, Label, misplaced, Line, Plain, Unparted, Labelled, lineOf, titleLine}
+use Rattle.format.specs.Labels.{ListOf, MaxXyz, XyzFactor, XyzRows, Holds, Text, Version, Formula, BlockId, Atoms, Rows, Xyz, End, Skipped, Label, misplaced, Line, Plain, Unparted, Labelled, lineOf, titleLine}
 use Rattle.format.specs.Rows.{Row, AtomRow, number, field, atomShape, rowShape}
 use Rattle.format.specs.Formula.{Counted, formulaShape}
-use Rattle.format.specs.Structure.{unknown, massOk, rowsOf, most, ranged, meets, clash, entriesOf, agree}
-use Rattle.format.specs.Reading.{Rules, State, Turn, Go, Stop, if_stop_else_, past, atomCount, lacks, ordered, atomTurn, joined, joinTurn, rowTurn, formulaTurn, versionTurn, idValue, idTurn, unlessBlank, atomLine, rowLine, endTurn, valueTurn, blankOr, furtherTurn, over, opened, lineTurn, lineStep, Accepted, Refused, ending, readLines}
+use Rattle.format.specs.Coordinates.{XyzRow, xyzShape, Factor, factorShape, geometry, exceeds}
+use Rattle.format.specs.Structure.{Structure, Entry, unknown, massOk, rowsOf, most, ranged, meets, clash, entriesOf, agree}
+use Rattle.format.specs.Reading.{Rules, State, Prose, prose, Turn, Go, Stop, if_stop_else_, withBody, withText, withFormula, withGeometry, past, atomCount, lacks, ordered, atomTurn, joined, joinTurn, rowTurn, formulaTurn, versionTurn, idValue, idTurn, onlyField, greatestTurn, factorTurn, xyzTurn, unlessBlank, atomLine, rowLine, xyzLine, xyzValue, partly, endTurn, valueTurn, blankOr, xyzFurther, furtherTurn, over, opened, lineTurn, lineStep, Accepted, Refused, ending, readLines}
 
 -- A LINE'S STEP
 module _ (u : Rules) (st : State) (l : Bytes) where
@@ -74,14 +75,9 @@ module _ (u : Rules) (st : State) where
   unfolding readLines
   read-end = refl
 
--- WHAT A TURN KEEPS: the place, the labels seen, the record that runs; and where it stops, the number is not 0, which says "accepted"
-pub record Same (st next : State) : Type 0 where
-  pub at : next .at ≡ st .at
-  pub seen : next .seen ≡ st .seen
-  pub running : next .running ≡ st .running
-
-pub record Keeps (st : State) (t : Turn) : Type 0 where
-  pub gone : (next : State) → t ≡ Go next → Same st next
+-- WHERE A TURN LEADS: where it goes on, to a state of which R holds; and where it stops, the number is not 0, which says "accepted"
+pub record Leads (R : State → Type 0) (t : Turn) : Type 0 where
+  pub gone : (next : State) → t ≡ Go next → R next
   pub refuses : (n : ℕ) → t ≡ Stop n → 0 < n
 
 pub go-stop : {B : Type 0} (n : ℕ) (next : State) → Go next ≡ Stop n → B
@@ -90,103 +86,182 @@ go-stop n next e = absurd (let z : _≡_ {A = ℕ} 0 1 = cc in omega arith)
 pub stop-go : {B : Type 0} (n : ℕ) (next : State) → Stop n ≡ Go next → B
 stop-go n next e = absurd (let z : _≡_ {A = ℕ} 0 1 = cc in omega arith)
 
-module _ (st : State) where
-  pub stop-keeps : (n : ℕ) → 0 < n → Keeps st (Stop n)
-  stop-keeps n h = record { gone = λ next e. stop-go n next e; refuses = λ m e. let q : n ≡ m = cc in subst (λ (k : ℕ). 0 < k) q h }
+module _ (R : State → Type 0) where
+  stop-leads : (n : ℕ) → 0 < n → Leads R (Stop n)
+  stop-leads n h = record { gone = λ next e. stop-go n next e; refuses = λ m e. let q : n ≡ m = cc in subst (λ (k : ℕ). 0 < k) q h }
 
-  pub go-keeps : (new : State) → Same st new → Keeps st (Go new)
-  go-keeps new k = record { gone = λ next e. let q : new ≡ next = cc in subst (Same st) q k; refuses = λ n e. go-stop n new e }
+  go-leads : (new : State) → R new → Leads R (Go new)
+  go-leads new k = record { gone = λ next e. let q : new ≡ next = cc in subst R q k; refuses = λ n e. go-stop n new e }
+
+  if-leads : (b : Bool) (n : ℕ) (t : Turn) → 0 < n → Leads R t → Leads R (if b stop n else t)
+  if-leads true n t h k = stop-leads n h
+  if-leads false n t h k = k
+
+  -- a state of which R holds, and so it does with another structure
+  module _ (st : State) (here : R st) (body : (s : Structure) → R (withBody st s)) where
+    atom-leads : (k : ℕ) (r : Option AtomRow) → Leads R (atomTurn k st r)
+    unfolding atomTurn
+    atom-leads k none = stop-leads 9 (omega arith)
+    atom-leads k (some r) =
+        if-leads (not (massOk (r .symbol) && leb (r .hydrogens) 15)) 10 _ (omega arith)
+        (if-leads (not (eqb (r .number) (suc (atomCount st)))) 11 _ (omega arith) (if-leads (unknown k (r .symbol)) 12 _ (omega arith) (if-leads (leb 256 (atomCount st)) 14 _ (omega arith) (go-leads _ (body _)))))
+
+    joined-leads : (again full : Bool) (new : State) → R new → Leads R (joined again full st new)
+    joined-leads true full new k = go-leads st here
+    joined-leads false true new k = stop-leads 14 (omega arith)
+    joined-leads false false new k = go-leads new k
+
+    row-leads : (l : ListOf) (r : Option Row) → Leads R (rowTurn l st r)
+    unfolding rowTurn joinTurn
+    row-leads l none = stop-leads 9 (omega arith)
+    row-leads l (some r) =
+        let rs : List Row = rowsOf l (st .body) in
+        if-leads (not (ranged l (r .value))) 10 _ (omega arith)
+        (if-leads (not (all (within 1 (atomCount st)) (r .atoms))) 11 _ (omega arith)
+        (if-leads (pairs eqb (r .atoms)) 13 _ (omega arith)
+        (if-leads (any (clash l (ordered r)) rs) 13 _ (omega arith) (joined-leads (any (meets l (ordered r)) rs) (leb (most l) (length rs)) _ (body _)))))
+
+    value-of-id : (alone : Bool) (n : Option ℕ) → Leads R (idValue st alone n)
+    value-of-id alone none = stop-leads 9 (omega arith)
+    value-of-id alone (some n) = if-leads (not alone) 9 _ (omega arith) (if-leads (eqb n 0) 10 _ (omega arith) (go-leads _ (body _)))
+
+    unless-leads : (fs : List Bytes) (t : Turn) → Leads R t → Leads R (unlessBlank st fs t)
+    unless-leads [] t k = go-leads st here
+    unless-leads (f ∷ fs) t k = k
+
+    version-leads : (fs : List Bytes) → Leads R (versionTurn st fs)
+    unfolding versionTurn
+    version-leads fs = if-leads (not (same (field 0 fs) (bytes "3.7") && isNil (drop 1 fs))) 7 _ (omega arith) (go-leads st here)
+
+    id-leads : (fs : List Bytes) → Leads R (idTurn st fs)
+    unfolding idTurn
+    id-leads fs = value-of-id (isNil (drop 1 fs)) (number (field 0 fs))
+
+    atoms-lead : (k : ℕ) (fs : List Bytes) → Leads R (atomLine k st fs)
+    unfolding atomLine
+    atoms-lead k fs = unless-leads fs (atomTurn k st (atomShape fs)) (atom-leads k (atomShape fs))
+
+    rows-lead : (l : ListOf) (fs : List Bytes) → Leads R (rowLine l st fs)
+    unfolding rowLine
+    rows-lead l fs = unless-leads fs (rowTurn l st (rowShape l fs)) (row-leads l (rowShape l fs))
+
+    end-leads : (u : Rules) (fs : List Bytes) → Leads R (endTurn u st fs)
+    unfolding endTurn
+    end-leads u fs =
+        if-leads (any (lacks (st .seen)) (2 ∷ 3 ∷ 4 ∷ 5 ∷ []) || eqb (atomCount st) 0) 8 _ (omega arith)
+        (if-leads (not (isNil fs)) 9 _ (omega arith) (if-leads (u .totals && not (agree (st .formula) (entriesOf (st .body .atoms)))) 15 _ (omega arith)
+        (if-leads (partly (st .seen) (14 ∷ 15 ∷ 16 ∷ [])) 41 _ (omega arith) (if-leads (exceeds (st .geometry)) 42 _ (omega arith) (go-leads st here)))))
+
+    blank-leads : (n : ℕ) (l : Bytes) → 0 < n → Leads R (blankOr n st l)
+    unfolding blankOr
+    blank-leads n l h = if-leads (not (all gap l)) n _ h (go-leads st here)
+
+    -- and with another row of XYZ
+    module _ (more : (r : XyzRow) → R (withGeometry st (geometry (st .geometry .greatest) (st .geometry .scale) (r ∷ st .geometry .rows)))) where
+      xyz-leads : (r : Option XyzRow) → Leads R (xyzTurn st r)
+      unfolding xyzTurn
+      xyz-leads none = stop-leads 9 (omega arith)
+      xyz-leads (some r) =
+          if-leads (not (within 1 (atomCount st) (r .atom))) 11 _ (omega arith) (if-leads (any (λ q. leb (r .atom) (q .atom)) (st .geometry .rows)) 13 _ (omega arith) (go-leads _ (more r)))
+
+      xyz-line-leads : (fs : List Bytes) → Leads R (xyzLine st fs)
+      unfolding xyzLine
+      xyz-line-leads fs = unless-leads fs (xyzTurn st (xyzShape fs)) (xyz-leads (xyzShape fs))
+
+    -- and with another text, formula, MAX_XYZ and factor
+    module _ (text : (i : ℕ) (t : Prose) → R (withText st i t)) (formula : (es : List Entry) → R (withFormula st es)) (bound : (n : ℕ) → R (withGeometry st (geometry n (st .geometry .scale) (st .geometry .rows))))
+        (scaled : (f : Factor) → R (withGeometry st (geometry (st .geometry .greatest) f (st .geometry .rows)))) where
+      formula-leads : (k : ℕ) (r : Option (List Counted)) → Leads R (formulaTurn k st r)
+      unfolding formulaTurn
+      formula-leads k none = stop-leads 9 (omega arith)
+      formula-leads k (some cs) =
+          if-leads (not (all (λ c. massOk (c .symbol) && within 1 9999 (c .count)) cs)) 10 _ (omega arith) (if-leads (any (λ c. unknown k (c .symbol)) cs) 12 _ (omega arith) (go-leads _ (formula _)))
+
+      greatest-leads : (n : Option ℕ) → Leads R (greatestTurn st n)
+      unfolding greatestTurn
+      greatest-leads none = stop-leads 9 (omega arith)
+      greatest-leads (some n) = go-leads _ (bound n)
+
+      factor-leads : (f : Option Factor) → Leads R (factorTurn st f)
+      unfolding factorTurn
+      factor-leads none = stop-leads 9 (omega arith)
+      factor-leads (some f) = if-leads (eqb (f .digits) 0) 10 _ (omega arith) (go-leads _ (scaled f))
+
+      module _ (h : Holds) (rows : h ≡ Xyz XyzRows → (fs : List Bytes) → Leads R (xyzLine st fs)) where
+        value-leads : (u : Rules) (from : ℕ) (v : Bytes) → Leads R (valueTurn u h st from v)
+        unfolding valueTurn xyzValue
+        value-leads u from v = by h refl
+          where
+            by : (g : Holds) → h ≡ g → Leads R (valueTurn u g st from v)
+            by (Text i) e = go-leads _ (text i (prose from v))
+            by Version e = version-leads (fields (strip v))
+            by Formula e = formula-leads (u .elements) (formulaShape (strip v))
+            by BlockId e = id-leads (fields (strip v))
+            by Atoms e = atoms-lead (u .elements) (fields (strip v))
+            by (Rows l) e = rows-lead l (fields (strip v))
+            by (Xyz MaxXyz) e = greatest-leads (number (onlyField (fields (strip v))))
+            by (Xyz XyzFactor) e = factor-leads (factorShape (onlyField (fields (strip v))))
+            by (Xyz XyzRows) e = rows e (fields (strip v))
+            by End e = end-leads u (fields (strip v))
+            by Skipped e = go-leads st here
+
+        further-leads : (u : Rules) (l : Bytes) → Leads R (furtherTurn u h st l)
+        unfolding furtherTurn xyzFurther
+        further-leads u l = by h refl
+          where
+            by : (g : Holds) → h ≡ g → Leads R (furtherTurn u g st l)
+            by (Text i) e = go-leads _ (text i _)
+            by Version e = blank-leads 9 (strip l) (omega arith)
+            by Formula e = blank-leads 9 (strip l) (omega arith)
+            by BlockId e = blank-leads 9 (strip l) (omega arith)
+            by Atoms e = atoms-lead (u .elements) (fields (strip l))
+            by (Rows r) e = rows-lead r (fields (strip l))
+            by (Xyz MaxXyz) e = blank-leads 9 (strip l) (omega arith)
+            by (Xyz XyzFactor) e = blank-leads 9 (strip l) (omega arith)
+            by (Xyz XyzRows) e = rows e (fields (strip l))
+            by End e = blank-leads 17 l (omega arith)
+            by Skipped e = go-leads st here
+
+-- WHAT EVERY TURN KEEPS: the place, the labels seen, the record that runs
+pub record Same (st next : State) : Type 0 where
+  pub at : next .at ≡ st .at
+  pub seen : next .seen ≡ st .seen
+  pub running : next .running ≡ st .running
+
+abbrev pub Keeps : State → Turn → Type 0
+Keeps st t = Leads (Same st) t
+
+module _ (st : State) where
+  alike : Same st st
+  alike = record { at = refl; seen = refl; running = refl }
+
+  with-body : (s : Structure) → Same st (withBody st s)
+  with-body s = record { at = refl; seen = refl; running = refl }
+
+  pub stop-keeps : (n : ℕ) → 0 < n → Keeps st (Stop n)
+  stop-keeps = stop-leads (Same st)
 
   pub if-keeps : (b : Bool) (n : ℕ) (t : Turn) → 0 < n → Keeps st t → Keeps st (if b stop n else t)
-  if-keeps true n t h k = stop-keeps n h
-  if-keeps false n t h k = k
-
-  alike : (new : State) → new .at ≡ st .at → new .seen ≡ st .seen → new .running ≡ st .running → Keeps st (Go new)
-  alike new a s r = go-keeps new (record { at = a; seen = s; running = r })
-
-  pub atom-keeps : (k : ℕ) (r : Option AtomRow) → Keeps st (atomTurn k st r)
-  unfolding atomTurn
-  atom-keeps k none = stop-keeps 9 (omega arith)
-  atom-keeps k (some r) =
-      if-keeps (not (massOk (r .symbol) && leb (r .hydrogens) 15)) 10 _ (omega arith)
-      (if-keeps (not (eqb (r .number) (suc (atomCount st)))) 11 _ (omega arith) (if-keeps (unknown k (r .symbol)) 12 _ (omega arith) (if-keeps (leb 256 (atomCount st)) 14 _ (omega arith) (alike _ refl refl refl))))
-
-  joined-keeps : (again full : Bool) (new : State) → Keeps st (Go new) → Keeps st (joined again full st new)
-  joined-keeps true full new k = alike st refl refl refl
-  joined-keeps false true new k = stop-keeps 14 (omega arith)
-  joined-keeps false false new k = k
-
-  pub row-keeps : (l : ListOf) (r : Option Row) → Keeps st (rowTurn l st r)
-  unfolding rowTurn joinTurn
-  row-keeps l none = stop-keeps 9 (omega arith)
-  row-keeps l (some r) =
-      let rs : List Row = rowsOf l (st .body) in
-      if-keeps (not (ranged l (r .value))) 10 _ (omega arith)
-      (if-keeps (not (all (within 1 (atomCount st)) (r .atoms))) 11 _ (omega arith)
-      (if-keeps (pairs eqb (r .atoms)) 13 _ (omega arith)
-      (if-keeps (any (clash l (ordered r)) rs) 13 _ (omega arith) (joined-keeps (any (meets l (ordered r)) rs) (leb (most l) (length rs)) _ (alike _ refl refl refl)))))
-
-  pub formula-keeps : (k : ℕ) (r : Option (List Counted)) → Keeps st (formulaTurn k st r)
-  unfolding formulaTurn
-  formula-keeps k none = stop-keeps 9 (omega arith)
-  formula-keeps k (some cs) =
-      if-keeps (not (all (λ c. massOk (c .symbol) && within 1 9999 (c .count)) cs)) 10 _ (omega arith) (if-keeps (any (λ c. unknown k (c .symbol)) cs) 12 _ (omega arith) (alike _ refl refl refl))
-
-  value-of-id : (alone : Bool) (n : Option ℕ) → Keeps st (idValue st alone n)
-  value-of-id alone none = stop-keeps 9 (omega arith)
-  value-of-id alone (some n) = if-keeps (not alone) 9 _ (omega arith) (if-keeps (eqb n 0) 10 _ (omega arith) (alike _ refl refl refl))
-
-  unless-keeps : (fs : List Bytes) (t : Turn) → Keeps st t → Keeps st (unlessBlank st fs t)
-  unless-keeps [] t k = alike st refl refl refl
-  unless-keeps (f ∷ fs) t k = k
-
-  pub version-keeps : (fs : List Bytes) → Keeps st (versionTurn st fs)
-  unfolding versionTurn
-  version-keeps fs = if-keeps (not (same (field 0 fs) (bytes "3.7") && isNil (drop 1 fs))) 7 _ (omega arith) (alike _ refl refl refl)
-
-  pub id-keeps : (fs : List Bytes) → Keeps st (idTurn st fs)
-  unfolding idTurn
-  id-keeps fs = value-of-id (isNil (drop 1 fs)) (number (field 0 fs))
+  if-keeps = if-leads (Same st)
 
   pub atoms-keeps : (k : ℕ) (fs : List Bytes) → Keeps st (atomLine k st fs)
-  unfolding atomLine
-  atoms-keeps k fs = unless-keeps fs (atomTurn k st (atomShape fs)) (atom-keeps k (atomShape fs))
+  atoms-keeps = atoms-lead (Same st) st alike with-body
 
   pub rows-keeps : (l : ListOf) (fs : List Bytes) → Keeps st (rowLine l st fs)
-  unfolding rowLine
-  rows-keeps l fs = unless-keeps fs (rowTurn l st (rowShape l fs)) (row-keeps l (rowShape l fs))
+  rows-keeps = rows-lead (Same st) st alike with-body
 
-  pub end-keeps : (u : Rules) (fs : List Bytes) → Keeps st (endTurn u st fs)
-  unfolding endTurn
-  end-keeps u fs =
-      if-keeps (any (lacks (st .seen)) (2 ∷ 3 ∷ 4 ∷ 5 ∷ []) || eqb (atomCount st) 0) 8 _ (omega arith)
-      (if-keeps (not (isNil fs)) 9 _ (omega arith) (if-keeps (u .totals && not (agree (st .formula) (entriesOf (st .body .atoms)))) 15 _ (omega arith) (alike _ refl refl refl)))
-
-  pub blank-keeps : (n : ℕ) (l : Bytes) → 0 < n → Keeps st (blankOr n st l)
-  unfolding blankOr
-  blank-keeps n l h = if-keeps (not (all gap l)) n _ h (alike _ refl refl refl)
+  pub xyz-line-keeps : (fs : List Bytes) → Keeps st (xyzLine st fs)
+  xyz-line-keeps fs = xyz-line-leads (Same st) st alike with-body (λ r. record { at = refl; seen = refl; running = refl }) fs
 
   pub value-keeps : (u : Rules) (h : Holds) (from : ℕ) (v : Bytes) → Keeps st (valueTurn u h st from v)
-  unfolding valueTurn
-  value-keeps u (Text i) from v = alike _ refl refl refl
-  value-keeps u Version from v = version-keeps (fields (strip v))
-  value-keeps u Formula from v = formula-keeps (u .elements) (formulaShape (strip v))
-  value-keeps u BlockId from v = id-keeps (fields (strip v))
-  value-keeps u Atoms from v = atoms-keeps (u .elements) (fields (strip v))
-  value-keeps u (Rows l) from v = rows-keeps l (fields (strip v))
-  value-keeps u End from v = end-keeps u (fields (strip v))
-  value-keeps u Skipped from v = alike _ refl refl refl
+  value-keeps u h from v =
+      value-leads (Same st) st alike with-body (λ i t. record { at = refl; seen = refl; running = refl }) (λ es. record { at = refl; seen = refl; running = refl }) (λ n. record { at = refl; seen = refl; running = refl })
+      (λ f. record { at = refl; seen = refl; running = refl }) h (λ e. xyz-line-keeps) u from v
 
   pub further-keeps : (u : Rules) (h : Holds) (l : Bytes) → Keeps st (furtherTurn u h st l)
-  unfolding furtherTurn
-  further-keeps u (Text i) l = alike _ refl refl refl
-  further-keeps u Version l = blank-keeps 9 (strip l) (omega arith)
-  further-keeps u Formula l = blank-keeps 9 (strip l) (omega arith)
-  further-keeps u BlockId l = blank-keeps 9 (strip l) (omega arith)
-  further-keeps u Atoms l = atoms-keeps (u .elements) (fields (strip l))
-  further-keeps u (Rows r) l = rows-keeps r (fields (strip l))
-  further-keeps u End l = blank-keeps 17 l (omega arith)
-  further-keeps u Skipped l = alike _ refl refl refl
+  further-keeps u h l =
+      further-leads (Same st) st alike with-body (λ i t. record { at = refl; seen = refl; running = refl }) (λ es. record { at = refl; seen = refl; running = refl }) (λ n. record { at = refl; seen = refl; running = refl })
+      (λ f. record { at = refl; seen = refl; running = refl }) h (λ e. xyz-line-keeps) u l
 
 -- A LINE THAT GOES ON: no label line, or a label line that starts a record; never one without `=`
 pub data Went (u : Rules) (st : State) (l : Bytes) (next : State) : Type 0 where
@@ -222,6 +297,37 @@ module _ (u : Rules) (st : State) (l : Bytes) (next : State) where
       by : Went u st l next → next .at ≡ st .at
       by (further e k) = k .at
       by (started x v e o k) = k .at
+
+-- THE ROWS OF XYZ stay, or there is one more, and XYZ runs
+abbrev pub Grown : (st next : State) → Type 0
+Grown st next = (next .geometry .rows ≡ st .geometry .rows) ⊎ ((next .running ≡ Xyz XyzRows) × ((r : XyzRow) × (next .geometry .rows ≡ r ∷ st .geometry .rows)))
+
+module _ (st : State) (h : Holds) (e : st .running ≡ h) where
+  line-grown : h ≡ Xyz XyzRows → (fs : List Bytes) → Leads (Grown st) (xyzLine st fs)
+  line-grown f fs = xyz-line-leads (Grown st) st (inl refl) (λ s. inl refl) (λ r. inr (e ∙ f, (r, refl))) fs
+
+  value-grown : (u : Rules) (from : ℕ) (v : Bytes) → Leads (Grown st) (valueTurn u h st from v)
+  value-grown = value-leads (Grown st) st (inl refl) (λ s. inl refl) (λ i t. inl refl) (λ es. inl refl) (λ n. inl refl) (λ f. inl refl) h line-grown
+
+  further-grown : (u : Rules) (l : Bytes) → Leads (Grown st) (furtherTurn u h st l)
+  further-grown = further-leads (Grown st) st (inl refl) (λ s. inl refl) (λ i t. inl refl) (λ es. inl refl) (λ n. inl refl) (λ f. inl refl) h line-grown
+
+-- a line's step leads where its turn does
+module _ (R : State → Type 0) (u : Rules) (st : State) (l : Bytes) (plain : Leads R (furtherTurn u (st .running) st l))
+    (labelled : (x : Label) (v : Bytes) → Leads R (valueTurn u (x .holds) (opened st x) (st .at + (length l - length v)) v)) where
+  turn-leads : (t : Line) → Leads R (lineTurn u st l t)
+  unfolding lineTurn
+  turn-leads Plain = plain
+  turn-leads Unparted = stop-leads R 5 (omega arith)
+  turn-leads (Labelled x v) = if-leads R (misplaced (st .seen) x) 6 _ (omega arith) (if-leads R (over (st .running)) 17 _ (omega arith) (labelled x v))
+
+  pub step-leads : Leads R (lineStep u st l)
+  unfolding lineStep
+  step-leads = if-leads R (not (all allowed l)) 3 _ (omega arith) (if-leads R (isNil (st .seen) && not (titleLine l)) 4 _ (omega arith) (turn-leads (lineOf l)))
+
+pub step-grown : (u : Rules) (st : State) (l : Bytes) (next : State) → lineStep u st l ≡ Go next → Grown st next
+step-grown u st l next e =
+    step-leads (Grown st) u st l (further-grown st (st .running) refl u l) (λ x v. value-grown (opened st x) (x .holds) refl u (st .at + (length l - length v)) v) .gone next e
 
 nil-at : (at : ℕ) → at ≡ at + length {A = ℕ} (concat [])
 unfolding concat

@@ -1,19 +1,22 @@
--- What a refused reading answers: a table that is too short is untouched, and a refusal's place lies in its block, so that it fits beside the number. Document 01,
+-- What a refused reading answers: tables of which one is too short are untouched, and a refusal's place lies in its block, so that it fits beside the number. Document 01,
 -- "Refusal numbers". Assumes nothing.
 use Prim.Native.Nat.{ℕ, _+_, _≤_, _<_}
 use mathlib.Core.Path.{_≡_, refl, sym, ap, _∙_, subst}
+use mathlib.Core.Logic.{_⊎_, inl, inr}
 use mathlib.Core.Bool.{Bool, true, false}
 use mathlib.Core.List.{List, [], _∷_}
 use native.Mathlib.Omega.{arith}
-use lib.IntN.{ℤ, pos}
-use lib.ListN.{length, drop, length-replicate}
+use lib.ListN.{length, length-replicate}
+use lib.IntN.{pos}
 use lib.Dec.{ltb}
 use borrow.Author.Tests.{ltb-true, ltb-false, lt-ltb, le-ltb}
 use Rattle.lists.specs.Lists.{concat, isNil}
+use Rattle.lists.proofs.Bools.{or-left, or-right, or-neither, or-parts}
 use Rattle.lists.proofs.PartLaws.{concat-length}
 use Rattle.format.specs.Bytes.{Bytes, cut}
-use Rattle.format.specs.Reading.{State, Rules, Turn, Go, Stop, Outcome, Accepted, Refused, Reading, Read, Unread, over, past, ending, lineStep, readLines, start, readingOf, strict, readBlock}
-use Rattle.format.specs.Table.{zeros, ReadResult, readAnswer, tableOf, readResult}
+use Rattle.format.specs.Coordinates.{nought}
+use Rattle.format.specs.Reading.{State, Rules, Turn, Go, Stop, Outcome, Accepted, Refused, Unread, over, past, ending, lineStep, readLines, start, readingOf, strict, readBlock}
+use Rattle.format.specs.Table.{zeros, Lent, noughts, short, ample, ReadResult, readAnswer, readInto, readResult}
 use Rattle.format.proofs.CutLaws.{concat-cut}
 use Rattle.format.proofs.ReadingLaws.{read-go, read-stop, read-end, step-at}
 
@@ -50,24 +53,40 @@ module _ (u : Rules) where
       farther (0 + length (concat (cut b))) 32768 (readLines u start (cut b)) z (lines-placed (cut b) start)
 
 -- the place of a table's reading: of a refusal that of its block, else 0
-told-placed : (t : List ℤ) (o : Outcome) → Placed 32768 o → tableOf t (readingOf o) .place ≤ 32768
+told-placed : (t : Lent) (o : Outcome) → Placed 32768 o → readInto t (readingOf o) .place ≤ 32768
 told-placed t (Accepted st) h = omega arith
 told-placed t (Refused n p) h = h
 
--- a long enough table
-pub zeros-long : 3856 ≤ length (zeros 3856)
-unfolding zeros
-zeros-long = omega (arith, length-replicate 3856 (pos 0))
+-- lent tables: both long enough, one of them too short; and those of `ample` are long enough
+module _ (l : Lent) where
+  pub both-long : 3856 ≤ length (l .table) → 1024 ≤ length (l .positions) → short l ≡ false
+  unfolding short
+  both-long h k = or-neither _ _ (le-ltb (length (l .table)) 3856 h) (le-ltb (length (l .positions)) 1024 k)
 
-module _ (k : ℕ) (b : Bytes) (t : List ℤ) where
+  pub either-short : (length (l .table) < 3856) ⊎ (length (l .positions) < 1024) → short l ≡ true
+  unfolding short
+  either-short (inl h) = or-left _ (ltb (length (l .positions)) 1024) (lt-ltb (length (l .table)) 3856 h)
+  either-short (inr h) = or-right (ltb (length (l .table)) 3856) _ (lt-ltb (length (l .positions)) 1024 h)
+
+  pub long-both : short l ≡ false → (3856 ≤ length (l .table)) × (1024 ≤ length (l .positions))
+  unfolding short
+  long-both e =
+      let q : (ltb (length (l .table)) 3856 ≡ false) × (ltb (length (l .positions)) 1024 ≡ false) = or-parts _ _ e in
+      (ltb-false (length (l .table)) 3856 (q .0), ltb-false (length (l .positions)) 1024 (q .1))
+
+pub ample-long : short ample ≡ false
+unfolding ample zeros noughts
+ample-long = both-long ample (omega (arith, length-replicate 3856 (pos 0))) (omega (arith, length-replicate 1024 nought))
+
+module _ (k : ℕ) (b : Bytes) (t : Lent) where
   -- "1: table shorter than 3,856; untouched"; and a table that is long enough
-  pub short-untouched : length t < 3856 → readResult k b t ≡ readAnswer 1 0 t
+  pub short-untouched : short t ≡ true → readResult k b t ≡ readAnswer 1 0 t
   unfolding readResult
-  short-untouched h = rw (lt-ltb (length t) 3856 h, readResult)
+  short-untouched h = rw (h, readResult)
 
-  pub long-read : 3856 ≤ length t → readResult k b t ≡ tableOf (drop 3856 t) (readBlock (strict k) b)
+  pub long-read : short t ≡ false → readResult k b t ≡ readInto t (readBlock (strict k) b)
   unfolding readResult
-  long-read h = rw (le-ltb (length t) 3856 h, readResult)
+  long-read h = rw (h, readResult)
 
   block-long : 32768 < length b → readBlock (strict k) b ≡ Unread 2 0
   unfolding readBlock
@@ -78,12 +97,12 @@ module _ (k : ℕ) (b : Bytes) (t : List ℤ) where
   block-lines h = rw (le-ltb 32768 (length b) h, readBlock)
 
   pub result-placed : readResult k b t .place ≤ 32768
-  result-placed = by (ltb (length t) 3856) (ltb 32768 (length b)) refl refl
+  result-placed = by (short t) (ltb 32768 (length b)) refl refl
     where
-      by : (short long : Bool) → ltb (length t) 3856 ≡ short → ltb 32768 (length b) ≡ long → readResult k b t .place ≤ 32768
-      by true long e h = subst (λ (x : ReadResult). x .place ≤ 32768) (sym (short-untouched (ltb-true (length t) 3856 e))) (omega arith)
+      by : (s long : Bool) → short t ≡ s → ltb 32768 (length b) ≡ long → readResult k b t .place ≤ 32768
+      by true long e h = subst (λ (x : ReadResult). x .place ≤ 32768) (sym (short-untouched e)) (omega arith)
       by false true e h =
-          subst (λ (x : ReadResult). x .place ≤ 32768) (sym (long-read (ltb-false (length t) 3856 e) ∙ ap (tableOf (drop 3856 t)) (block-long (ltb-true 32768 (length b) h)))) (omega arith)
+          subst (λ (x : ReadResult). x .place ≤ 32768) (sym (long-read e ∙ ap (readInto t) (block-long (ltb-true 32768 (length b) h)))) (omega arith)
       by false false e h =
-          subst (λ (x : ReadResult). x .place ≤ 32768) (sym (long-read (ltb-false (length t) 3856 e) ∙ ap (tableOf (drop 3856 t)) (block-lines (ltb-false 32768 (length b) h))))
-          (told-placed (drop 3856 t) (readLines (strict k) start (cut b)) (block-placed (strict k) b (ltb-false 32768 (length b) h)))
+          subst (λ (x : ReadResult). x .place ≤ 32768) (sym (long-read e ∙ ap (readInto t) (block-lines (ltb-false 32768 (length b) h))))
+          (told-placed t (readLines (strict k) start (cut b)) (block-placed (strict k) b (ltb-false 32768 (length b) h)))

@@ -34,11 +34,17 @@ normal (b ∷ s) = elim (isIn b (32 ∷ 45 ∷ 47 ∷ 95 ∷ [])) [ true ↦ nor
 pub data ListOf : Type 0 where
   Bonds Charges Radicals Centres Pairs : ListOf
 
--- What a record holds: a text (0 title, 1 origin, 2 owner), a value on its label line, the atoms, the rows of a list, nothing; or it is skipped
+-- The three records of a block's geometry: document 02, L2
+pub data XyzOf : Type 0 where
+  MaxXyz XyzFactor XyzRows : XyzOf
+
+-- What a record holds: a text (0 title, 1 origin, 2 owner), a value on its label line, the atoms, the rows of a list, a part of the
+-- geometry, nothing; or it is skipped
 pub data Holds : Type 0 where
   Text : ℕ → Holds
   Version Formula BlockId Atoms : Holds
   Rows : ListOf → Holds
+  Xyz : XyzOf → Holds
   End Skipped : Holds
 
 pub record Label : Type 0 where
@@ -52,7 +58,8 @@ unfoldable pub label : String → Holds → (code low high : ℕ) → Label
 label n h c lo hi = record { name = bytes n; holds = h; code = c; low = lo; high = hi }
 
 -- "TITLE, JCAMP-CS, ORIGIN, OWNER, MOLFORM, ATOMLIST, BONDLIST, CHARGE in this order; RADICAL, STEREOCENTER, STEREOPAIR in any order after those; BLOCK_ID
--- after JCAMP-CS; END last." Each label has an interval low to high, and b must follow a where a's interval ends before b's begins.
+-- after JCAMP-CS; END last." MAX_XYZ, XYZ_FACTOR and XYZ "after the core, in any order with the other shell labels, each at most once" (document 02, L2). Each label has
+-- an interval low to high, and b must follow a where a's interval ends before b's begins.
 unfoldable pub known : List Label
 known =
     label "TITLE" (Text 0) 1 1 1
@@ -68,9 +75,12 @@ known =
     ∷ label "STEREOPAIR" (Rows Pairs) 11 9 9
     ∷ label "BLOCKID" BlockId 12 3 9
     ∷ label "END" End 13 10 10
+    ∷ label "MAXXYZ" (Xyz MaxXyz) 14 9 9
+    ∷ label "XYZFACTOR" (Xyz XyzFactor) 15 9 9
+    ∷ label "XYZ" (Xyz XyzRows) 16 9 9
     ∷ []
 
--- "DATE, TIME, STEREOMOLECULE, the raster and XYZ labels and every unknown label are skipped with their lines": code 0, in order anywhere
+-- "DATE, TIME, STEREOMOLECULE, the raster .. labels and every unknown label are skipped with their lines": code 0, in order anywhere
 unfoldable pub lookup : Bytes → List Label → Label
 lookup n [] = label "" Skipped 0 0 10
 lookup n (x ∷ xs) = elim (same n (x .name)) [ true ↦ x | false ↦ lookup n xs ]

@@ -4,6 +4,7 @@ pub mod Labels
 pub mod Rows
 pub mod Formula
 pub mod Grammar
+pub mod Coordinates
 pub mod Structure
 pub mod Reading
 pub mod Table

@@ -5,14 +5,14 @@ use mathlib.Core.Bool.{Bool, true, false, _&&_, _||_, not}
 use mathlib.Core.Option.{Option, none, some}
 use mathlib.Core.List.{List, [], _∷_, _++_, map}
 use lib.ListN.{length, getD, set, drop}
-use lib.IntN.{ℤ, pos}
 use lib.Dec.{eqb, ltb, leb}
 use Rattle.lists.specs.Lists.{isNil, all, any, pairs}
 use Rattle.lists.specs.Order.{sort}
 use Rattle.format.specs.Bytes.{Bytes, bytes, within, same, gap, allowed, cut, fields, strip, lead, trim}
-use Rattle.format.specs.Labels.{ListOf, Bonds, Charges, Radicals, Centres, Pairs, Holds, Text, Version, Formula, BlockId, Atoms, Rows, End, Skipped, Label, Line, Plain, Unparted, Labelled, lineOf, titleLine, misplaced}
+use Rattle.format.specs.Labels.{ListOf, Bonds, Charges, Radicals, Centres, Pairs, XyzOf, MaxXyz, XyzFactor, XyzRows, Holds, Text, Version, Formula, BlockId, Atoms, Rows, Xyz, End, Skipped, Label, Line, Plain, Unparted, Labelled, lineOf, titleLine, misplaced}
 use Rattle.format.specs.Rows.{Row, row, AtomRow, number, field, atomShape, rowShape}
 use Rattle.format.specs.Formula.{Counted, formulaShape}
+use Rattle.format.specs.Coordinates.{XyzRow, xyzShape, Factor, factorShape, Geometry, geometry, noGeometry, exceeds}
 use Rattle.format.specs.Structure.{isotope, unknown, massOk, Atom, Structure, rowsOf, most, ranged, meets, clash, rowBefore, Entry, entry, entriesOf, agree}
 
 -- What a reading goes by: the number of known elements, and whether the formula's totals are tested at END
@@ -31,14 +31,15 @@ pub record Prose : Type 0 where
 abbrev pub prose : ℕ → Bytes → Prose
 prose p b = record { place = p; body = b }
 
--- The state before a line: its place, the known labels so far, the record that runs, the texts (title, origin, owner), the formula, and the structure so far:
--- its atoms in order, the rows of each list latest first
+-- The state before a line: its place, the known labels so far, the record that runs, the texts (title, origin, owner), the formula, the geometry, and the
+-- structure so far: its atoms in order, the rows of each list latest first
 pub record State : Type 0 where
   pub at : ℕ
   pub seen : List Label
   pub running : Holds
   pub texts : List Prose
   pub formula : List Entry
+  pub geometry : Geometry
   pub body : Structure
 
 pub data Turn : Type 0 where
@@ -52,16 +53,19 @@ if false stop n else next = next
 
 -- The same state, or structure, but for one part
 abbrev pub withBody : State → Structure → State
-withBody st s = record { at = st .at; seen = st .seen; running = st .running; texts = st .texts; formula = st .formula; body = s }
+withBody st s = record { at = st .at; seen = st .seen; running = st .running; texts = st .texts; formula = st .formula; geometry = st .geometry; body = s }
 
 abbrev pub withFormula : State → List Entry → State
-withFormula st es = record { at = st .at; seen = st .seen; running = st .running; texts = st .texts; formula = es; body = st .body }
+withFormula st es = record { at = st .at; seen = st .seen; running = st .running; texts = st .texts; formula = es; geometry = st .geometry; body = st .body }
+
+abbrev pub withGeometry : State → Geometry → State
+withGeometry st p = record { at = st .at; seen = st .seen; running = st .running; texts = st .texts; formula = st .formula; geometry = p; body = st .body }
 
 abbrev pub withText : State → ℕ → Prose → State
-withText st i t = record { at = st .at; seen = st .seen; running = st .running; texts = set (st .texts) i t; formula = st .formula; body = st .body }
+withText st i t = record { at = st .at; seen = st .seen; running = st .running; texts = set (st .texts) i t; formula = st .formula; geometry = st .geometry; body = st .body }
 
 abbrev pub past : Bytes → State → State
-past line st = record { at = st .at + length line; seen = st .seen; running = st .running; texts = st .texts; formula = st .formula; body = st .body }
+past line st = record { at = st .at + length line; seen = st .seen; running = st .running; texts = st .texts; formula = st .formula; geometry = st .geometry; body = st .body }
 
 abbrev pub withAtoms : List Atom → Structure → Structure
 withAtoms l s = record { atoms = l; bonds = s .bonds; charges = s .charges; radicals = s .radicals; centres = s .centres; pairs = s .pairs; id = s .id }
@@ -133,6 +137,28 @@ idValue st alone (some n) = if not alone stop 9 else if eqb n 0 stop 10 else Go 
 unfoldable pub idTurn : State → List Bytes → Turn
 idTurn st fs = idValue st (isNil (drop 1 fs)) (number (field 0 fs))
 
+-- "MAX_XYZ is unsigned, 1 to 6 digits"; "a zero factor" is 10. "Both stand on their label line; an empty one .. is 9": no shape takes the empty field
+abbrev pub onlyField : List Bytes → Bytes
+onlyField [] = []
+onlyField (f ∷ []) = f
+onlyField (f ∷ g ∷ fs) = []
+
+unfoldable pub greatestTurn : State → Option ℕ → Turn
+greatestTurn st none = Stop 9
+greatestTurn st (some n) = Go (withGeometry st (geometry n (st .geometry .scale) (st .geometry .rows)))
+
+unfoldable pub factorTurn : State → Option Factor → Turn
+factorTurn st none = Stop 9
+factorTurn st (some f) = if eqb (f .digits) 0 stop 10 else Go (withGeometry st (geometry (st .geometry .greatest) f (st .geometry .rows)))
+
+-- XYZ: "atoms ascending, not all needed", so there are never more rows than atoms
+unfoldable pub xyzTurn : State → Option XyzRow → Turn
+xyzTurn st none = Stop 9
+xyzTurn st (some r) =
+    if not (within 1 (atomCount st) (r .atom)) stop 11
+    else if any (λ q. leb (r .atom) (q .atom)) (st .geometry .rows) stop 13
+    else Go (withGeometry st (geometry (st .geometry .greatest) (st .geometry .scale) (r ∷ st .geometry .rows)))
+
 -- a list's line; "lines then blank are skipped"
 abbrev pub unlessBlank : State → List Bytes → Turn → Turn
 unlessBlank st [] t = Go st
@@ -144,15 +170,30 @@ atomLine k st fs = unlessBlank st fs (atomTurn k st (atomShape fs))
 unfoldable pub rowLine : ListOf → State → List Bytes → Turn
 rowLine l st fs = unlessBlank st fs (rowTurn l st (rowShape l fs))
 
--- END: 8 "JCAMP-CS, ORIGIN, OWNER, MOLFORM or an ATOMLIST with a row missing at END"; "END with a value is refused 9"; 15 "formula and atoms differ"
+unfoldable pub xyzLine : State → List Bytes → Turn
+xyzLine st fs = unlessBlank st fs (xyzTurn st (xyzShape fs))
+
+unfoldable pub xyzValue : XyzOf → State → List Bytes → Turn
+xyzValue MaxXyz st fs = greatestTurn st (number (onlyField fs))
+xyzValue XyzFactor st fs = factorTurn st (factorShape (onlyField fs))
+xyzValue XyzRows st fs = xyzLine st fs
+
+-- END: 8 "JCAMP-CS, ORIGIN, OWNER, MOLFORM or an ATOMLIST with a row missing at END"; "END with a value is refused 9"; 15 "formula and atoms differ"; 41, "tested on
+-- the END line after 15"; 42 "a value above MAX_XYZ, also tested there, after 41"
 unfoldable pub lacks : (seen : List Label) → (code : ℕ) → Bool
 lacks seen c = not (any (λ x. eqb (x .code) c) seen)
+
+-- 41 "one or two of the three labels present without the rest"
+unfoldable pub partly : (seen : List Label) → (codes : List ℕ) → Bool
+partly seen cs = any (lacks seen) cs && not (all (lacks seen) cs)
 
 unfoldable pub endTurn : Rules → State → List Bytes → Turn
 endTurn u st fs =
     if any (lacks (st .seen)) (2 ∷ 3 ∷ 4 ∷ 5 ∷ []) || eqb (atomCount st) 0 stop 8
     else if not (isNil fs) stop 9
     else if u .totals && not (agree (st .formula) (entriesOf (st .body .atoms))) stop 15
+    else if partly (st .seen) (14 ∷ 15 ∷ 16 ∷ []) stop 41
+    else if exceeds (st .geometry) stop 42
     else Go st
 
 -- "What follows `=` on a label line counts as the record's first line."
@@ -163,12 +204,19 @@ valueTurn u Formula st from v = formulaTurn (u .elements) st (formulaShape (stri
 valueTurn u BlockId st from v = idTurn st (fields (strip v))
 valueTurn u Atoms st from v = atomLine (u .elements) st (fields (strip v))
 valueTurn u (Rows l) st from v = rowLine l st (fields (strip v))
+valueTurn u (Xyz x) st from v = xyzValue x st (fields (strip v))
 valueTurn u End st from v = endTurn u st (fields (strip v))
 valueTurn u Skipped st from v = Go st
 
 -- A further line of the record. "These and MOLFORM have their value on the label line; a further row is refused 9." 17 "a line with a non-blank byte after END"
 unfoldable pub blankOr : ℕ → State → Bytes → Turn
 blankOr n st l = if not (all gap l) stop n else Go st
+
+-- of MAX_XYZ and XYZ_FACTOR "a further row is 9"
+unfoldable pub xyzFurther : XyzOf → State → Bytes → Turn
+xyzFurther MaxXyz st l = blankOr 9 st l
+xyzFurther XyzFactor st l = blankOr 9 st l
+xyzFurther XyzRows st l = xyzLine st (fields l)
 
 abbrev pub extended : Prose → Bytes → Prose
 extended t l = prose (t .place) (t .body ++ l)
@@ -180,6 +228,7 @@ furtherTurn u Formula st l = blankOr 9 st (strip l)
 furtherTurn u BlockId st l = blankOr 9 st (strip l)
 furtherTurn u Atoms st l = atomLine (u .elements) st (fields (strip l))
 furtherTurn u (Rows r) st l = rowLine r st (fields (strip l))
+furtherTurn u (Xyz x) st l = xyzFurther x st (strip l)
 furtherTurn u End st l = blankOr 17 st l
 furtherTurn u Skipped st l = Go st
 
@@ -191,6 +240,7 @@ over Formula = false
 over BlockId = false
 over Atoms = false
 over (Rows l) = false
+over (Xyz x) = false
 over End = true
 over Skipped = false
 
@@ -199,7 +249,7 @@ abbrev pub noted : (code : ℕ) → Label → List Label → List Label
 noted c x seen = elim (eqb c 0) [ true ↦ seen | false ↦ x ∷ seen ]
 
 abbrev pub opened : State → Label → State
-opened st x = record { at = st .at; seen = noted (x .code) x (st .seen); running = x .holds; texts = st .texts; formula = st .formula; body = st .body }
+opened st x = record { at = st .at; seen = noted (x .code) x (st .seen); running = x .holds; texts = st .texts; formula = st .formula; geometry = st .geometry; body = st .body }
 
 -- A line that has passed 3 and 4. "On a line after END only 3, 5, 6 and 17 are tested"
 unfoldable pub lineTurn : Rules → State → Bytes → Line → Turn
@@ -238,6 +288,7 @@ start = record {
   running = Skipped;
   texts = prose 0 [] ∷ prose 0 [] ∷ prose 0 [] ∷ [];
   formula = [];
+  geometry = noGeometry;
   body = record { atoms = []; bonds = []; charges = []; radicals = []; centres = []; pairs = []; id = 0 };
 }
 
@@ -264,13 +315,13 @@ spanFrom p (b ∷ s) = record { place = p; size = suc (length s) }
 unfoldable pub spanOf : Prose → Span
 spanOf t = spanFrom (t .place + lead (t .body)) (trim (t .body))
 
--- A block's reading: its structure and where its texts stand, or the refusal's number and place. 2 "block over 32,768 bytes"
+-- A block's reading: its structure, where its texts stand and its geometry, or the refusal's number and place. 2 "block over 32,768 bytes"
 pub data Reading : Type 0 where
-  Read : Structure → List Span → Reading
+  Read : Structure → List Span → Geometry → Reading
   Unread : (number place : ℕ) → Reading
 
 abbrev pub readingOf : Outcome → Reading
-readingOf (Accepted st) = Read (finished (st .body)) (map spanOf (st .texts))
+readingOf (Accepted st) = Read (finished (st .body)) (map spanOf (st .texts)) (st .geometry)
 readingOf (Refused n p) = Unread n p
 
 unfoldable pub readBlock : Rules → Bytes → Reading

@@ -1,14 +1,16 @@
 -- The structure table: document 01, "The structure table", "Refusal numbers" (what reading leaves in it; when a table is sound). Assumes nothing.
 use Prim.Native.Nat.{ℕ, zero, suc, _+_, _*_, min}
-use mathlib.Core.Bool.{Bool, true, false, _&&_}
+use mathlib.Core.Bool.{Bool, true, false, _&&_, _||_}
 use mathlib.Core.List.{List, [], _∷_, _++_, map}
 use lib.ListN.{length, getD, take, drop, replicate}
 use lib.IntN.{ℤ, pos, negsuc, natAbs}
 use lib.Dec.{eqb, ltb, leb}
+use lib.Ieee.{Float}
 use Rattle.lists.specs.Lists.{all, sameBy, flat, filled, rowsFrom}
 use Rattle.format.specs.Bytes.{Bytes, isIn, same, allowed, trim, unlabelled}
 use Rattle.format.specs.Labels.{ListOf, Bonds, Charges, Radicals, Centres, Pairs}
 use Rattle.format.specs.Rows.{Row, row}
+use Rattle.format.specs.Coordinates.{nought, positionTable}
 use Rattle.format.specs.Structure.{isotopeOf, Atom, Structure, rowsOf, most, lists, wellFormed}
 use Rattle.format.specs.Reading.{Span, Reading, Read, Unread, strict, readBlock}
 
@@ -144,19 +146,45 @@ textOk b x = spanOk (x .place) (x .size) b && textFine (textAt b x)
 unfoldable pub sound : (k : ℕ) → List ℤ → Bytes → Bool
 sound k t b = soundNumbers k t && all (textOk b) (spansOf t)
 
--- The answer of a reading and the table after it: "1: table shorter than 3,856; untouched"; "Accepted is 0, place 0."; "those beyond are untouched";
--- "Refusals 2 to 17 zero the 3,856 numbers."
+-- What is lent to a reading: the structure table, and the positions in "a lent table of their own, 1,024 64-bit floats" (L2)
+pub record Lent : Type 0 where
+  pub table : List ℤ
+  pub positions : List Float
+
+abbrev pub lent : List ℤ → List Float → Lent
+lent t p = record { table = t; positions = p }
+
+unfoldable pub noughts : ℕ → List Float
+noughts n = replicate n nought
+
+-- "1: table shorter than 3,856; untouched"; "a short position table is 1, nothing touched"
+unfoldable pub short : Lent → Bool
+short l = ltb (length (l .table)) 3856 || ltb (length (l .positions)) 1024
+
+-- what a reading puts in front of each table; "those beyond are untouched"
+abbrev pub overlaid : List ℤ → List Float → Lent → Lent
+overlaid t p l = lent (t ++ drop 3856 (l .table)) (p ++ drop 1024 (l .positions))
+
+-- "Refusals 2 to 17 zero the 3,856 numbers."; positions are "cleared on refusals other than 1"
+unfoldable pub cleared : Lent → Lent
+cleared l = overlaid (zeros 3856) (noughts 1024) l
+
+-- tables that are long enough
+unfoldable pub ample : Lent
+ample = lent (zeros 3856) (noughts 1024)
+
+-- The answer of a reading and the tables after it: "Accepted is 0, place 0."
 pub record ReadResult : Type 0 where
   pub number : ℕ
   pub place : ℕ
-  pub table : List ℤ
+  pub after : Lent
 
-abbrev pub readAnswer : (number place : ℕ) → List ℤ → ReadResult
-readAnswer n p t = record { number = n; place = p; table = t }
+abbrev pub readAnswer : (number place : ℕ) → Lent → ReadResult
+readAnswer n p l = record { number = n; place = p; after = l }
 
-abbrev pub tableOf : (beyond : List ℤ) → Reading → ReadResult
-tableOf beyond (Read s spans) = readAnswer 0 0 (encode s spans ++ beyond)
-tableOf beyond (Unread n p) = readAnswer n p (zeros 3856 ++ beyond)
+abbrev pub readInto : Lent → Reading → ReadResult
+readInto l (Read s spans p) = readAnswer 0 0 (overlaid (encode s spans) (positionTable p) l)
+readInto l (Unread n p) = readAnswer n p (cleared l)
 
-unfoldable pub readResult : (k : ℕ) → Bytes → List ℤ → ReadResult
-readResult k b t = elim (ltb (length t) 3856) [ true ↦ readAnswer 1 0 t | false ↦ tableOf (drop 3856 t) (readBlock (strict k) b) ]
+unfoldable pub readResult : (k : ℕ) → Bytes → Lent → ReadResult
+readResult k b l = elim (short l) [ true ↦ readAnswer 1 0 l | false ↦ readInto l (readBlock (strict k) b) ]

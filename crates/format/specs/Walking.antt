@@ -7,7 +7,7 @@ use lib.ListN.{length, take, drop}
 use lib.Dec.{ltb}
 use Rattle.format.specs.Bytes.{Bytes, cut, trim, isLabel}
 use Rattle.format.specs.Labels.{Line, Plain, Unparted, Labelled, lineOf, titleLine, endLine}
-use Rattle.format.specs.Table.{spansOf, textAt, ReadResult, readResult, zeros}
+use Rattle.format.specs.Table.{spansOf, textAt, ReadResult, readResult, ample}
 
 pub data Kind : Type 0 where
   block stray : Kind
@@ -112,10 +112,10 @@ bytesOf p file = take (p .to - p .from) (drop (p .from) file)
 
 -- the texts that the table names in the block; a refused block's table is zeroed, so that its three are empty
 abbrev pub withTexts : Bytes → ReadResult → Told
-withTexts b r = BlockRead r (map (textAt b) (spansOf (r .table)))
+withTexts b r = BlockRead r (map (textAt b) (spansOf (r .after .table)))
 
 abbrev pub toldOf : (k : ℕ) → Kind → Bytes → Told
-toldOf k block b = withTexts b (readResult k b (zeros 3856))
+toldOf k block b = withTexts b (readResult k b ample)
 toldOf k stray b = StrayRun
 
 unfoldable pub answered : (k : ℕ) → (file : Bytes) → List Piece → List Answer
@@ -158,4 +158,4 @@ abbrev pub packedResult : ReadResult → ℕ
 packedResult r = packed (r .number) (r .place)
 
 unfoldable pub checkOf : (k : ℕ) → Bytes → ℕ
-checkOf k b = packedResult (readResult k b (zeros 3856))
+checkOf k b = packedResult (readResult k b ample)

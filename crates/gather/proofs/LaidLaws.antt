@@ -1,4 +1,4 @@
--- The scratch as its seven regions: where each stands, and the scratch with one of them replaced is that of the state with that list replaced. Serves document
+-- The scratch as its eight regions: where each stands, and the scratch with one of them replaced is that of the state with that list replaced. Serves document
 -- 01, "Rows". Assumes nothing.
 use Prim.Native.Nat.{ℕ, zero, suc, _+_, _*_, _≤_}
 use mathlib.Core.Path.{_≡_, refl, sym, ap, _∙_}
@@ -16,8 +16,11 @@ use Rattle.lists.proofs.SortLaws.{sort-length}
 use Rattle.format.specs.Labels.{ListOf, Bonds, Charges, Radicals, Centres, Pairs, Label, Holds}
 use Rattle.format.specs.Rows.{Row}
 use Rattle.format.specs.Structure.{Atom, rowsOf, most, rowBefore}
-use Rattle.format.specs.Reading.{State, withBody, withAtoms, withRows}
+use Rattle.format.specs.Coordinates.{Geometry}
+use Rattle.format.specs.Reading.{State, withBody, withAtoms, withRows, withGeometry}
 use Rattle.sorted.specs.Regions.{kindCells, kindsRegion, membersFrom, arrived, voidOf, spreadRegion, keyedCells, keyedRegion, seenFrom}
+use Rattle.sorted.specs.GeometryRegion.{geometryRegion}
+use Rattle.sorted.proofs.GeometryLaws.{region-nine}
 use Rattle.gather.specs.Progress.{laid, Counted, Listed, countOf}
 use Rattle.gather.specs.declared.progress.Progress.{Progress}
 use Rattle.spread.proofs.PlaceLaws.{arrived-length}
@@ -51,40 +54,45 @@ seated-past a s n from size b put h f = record {
     taken : (m : ℕ) → length a ≡ m → take (m + from) (a ++ s) ≡ a ++ take from s
     taken m e = ap (λ (k : ℕ). take (k + from) (a ++ s)) (sym e) ∙ take-append-add a s from
 
--- seven regions one after another
-abbrev pub seven : (a c r b s p l : List ℕ) → List ℕ
-seven a c r b s p l = a ++ (c ++ (r ++ (b ++ (s ++ (p ++ l)))))
+-- eight regions one after another
+abbrev pub eight : (a c r b s p l g : List ℕ) → List ℕ
+eight a c r b s p l g = a ++ (c ++ (r ++ (b ++ (s ++ (p ++ (l ++ g))))))
 
-module _ (a c r b s p l : List ℕ) (la : length a ≡ 768) (lc : length c ≡ 321) (lr : length r ≡ 321) (lb : length b ≡ 1024) (ls : length s ≡ 256) (lp : length p ≡ 256) (ll : length l ≡ 14) where
-  seat-a : Seated (seven a c r b s p l) 0 768 a (λ x. seven x c r b s p l)
-  seat-a = seated-here a (c ++ (r ++ (b ++ (s ++ (p ++ l))))) 768 la
+module _ (a c r b s p l g : List ℕ) (la : length a ≡ 768) (lc : length c ≡ 321) (lr : length r ≡ 321) (lb : length b ≡ 1024) (ls : length s ≡ 256) (lp : length p ≡ 256) (ll : length l ≡ 17) (lg : length g ≡ 9) where
+  seat-a : Seated (eight a c r b s p l g) 0 768 a (λ x. eight x c r b s p l g)
+  seat-a = seated-here a (c ++ (r ++ (b ++ (s ++ (p ++ (l ++ g)))))) 768 la
 
-  seat-c : Seated (seven a c r b s p l) 768 321 c (λ x. seven a x r b s p l)
-  seat-c = seated-past a (c ++ (r ++ (b ++ (s ++ (p ++ l))))) 768 0 321 c (λ x. x ++ (r ++ (b ++ (s ++ (p ++ l))))) la (seated-here c (r ++ (b ++ (s ++ (p ++ l)))) 321 lc)
+  seat-c : Seated (eight a c r b s p l g) 768 321 c (λ x. eight a x r b s p l g)
+  seat-c = seated-past a (c ++ (r ++ (b ++ (s ++ (p ++ (l ++ g)))))) 768 0 321 c (λ x. x ++ (r ++ (b ++ (s ++ (p ++ (l ++ g)))))) la (seated-here c (r ++ (b ++ (s ++ (p ++ (l ++ g))))) 321 lc)
 
-  past-c : (from size : ℕ) (region : List ℕ) (put : List ℕ → List ℕ) → Seated (r ++ (b ++ (s ++ (p ++ l)))) from size region put → Seated (seven a c r b s p l) (768 + (321 + from)) size region (λ x. a ++ (c ++ put x))
+  past-c : (from size : ℕ) (region : List ℕ) (put : List ℕ → List ℕ) → Seated (r ++ (b ++ (s ++ (p ++ (l ++ g))))) from size region put → Seated (eight a c r b s p l g) (768 + (321 + from)) size region (λ x. a ++ (c ++ put x))
   past-c from size region put f =
-      seated-past a (c ++ (r ++ (b ++ (s ++ (p ++ l))))) 768 (321 + from) size region (λ x. c ++ put x) la (seated-past c (r ++ (b ++ (s ++ (p ++ l)))) 321 from size region put lc f)
+      seated-past a (c ++ (r ++ (b ++ (s ++ (p ++ (l ++ g)))))) 768 (321 + from) size region (λ x. c ++ put x) la (seated-past c (r ++ (b ++ (s ++ (p ++ (l ++ g))))) 321 from size region put lc f)
 
-  seat-r : Seated (seven a c r b s p l) 1089 321 r (λ x. seven a c x b s p l)
-  seat-r = past-c 0 321 r (λ x. x ++ (b ++ (s ++ (p ++ l)))) (seated-here r (b ++ (s ++ (p ++ l))) 321 lr)
+  seat-r : Seated (eight a c r b s p l g) 1089 321 r (λ x. eight a c x b s p l g)
+  seat-r = past-c 0 321 r (λ x. x ++ (b ++ (s ++ (p ++ (l ++ g))))) (seated-here r (b ++ (s ++ (p ++ (l ++ g)))) 321 lr)
 
-  past-b : (from size : ℕ) (region : List ℕ) (put : List ℕ → List ℕ) → Seated (s ++ (p ++ l)) from size region put → Seated (seven a c r b s p l) (768 + (321 + (321 + (1024 + from)))) size region (λ x. a ++ (c ++ (r ++ (b ++ put x))))
+  past-b : (from size : ℕ) (region : List ℕ) (put : List ℕ → List ℕ) → Seated (s ++ (p ++ (l ++ g))) from size region put → Seated (eight a c r b s p l g) (768 + (321 + (321 + (1024 + from)))) size region (λ x. a ++ (c ++ (r ++ (b ++ put x))))
   past-b from size region put f =
       past-c (321 + (1024 + from)) size region (λ x. r ++ (b ++ put x))
-      (seated-past r (b ++ (s ++ (p ++ l))) 321 (1024 + from) size region (λ x. b ++ put x) lr (seated-past b (s ++ (p ++ l)) 1024 from size region put lb f))
+      (seated-past r (b ++ (s ++ (p ++ (l ++ g)))) 321 (1024 + from) size region (λ x. b ++ put x) lr (seated-past b (s ++ (p ++ (l ++ g))) 1024 from size region put lb f))
 
-  seat-b : Seated (seven a c r b s p l) 1410 1024 b (λ x. seven a c r x s p l)
-  seat-b = past-c 321 1024 b (λ x. r ++ (x ++ (s ++ (p ++ l)))) (seated-past r (b ++ (s ++ (p ++ l))) 321 0 1024 b (λ x. x ++ (s ++ (p ++ l))) lr (seated-here b (s ++ (p ++ l)) 1024 lb))
+  seat-b : Seated (eight a c r b s p l g) 1410 1024 b (λ x. eight a c r x s p l g)
+  seat-b = past-c 321 1024 b (λ x. r ++ (x ++ (s ++ (p ++ (l ++ g))))) (seated-past r (b ++ (s ++ (p ++ (l ++ g)))) 321 0 1024 b (λ x. x ++ (s ++ (p ++ (l ++ g)))) lr (seated-here b (s ++ (p ++ (l ++ g))) 1024 lb))
 
-  seat-s : Seated (seven a c r b s p l) 2434 256 s (λ x. seven a c r b x p l)
-  seat-s = past-b 0 256 s (λ x. x ++ (p ++ l)) (seated-here s (p ++ l) 256 ls)
+  seat-s : Seated (eight a c r b s p l g) 2434 256 s (λ x. eight a c r b x p l g)
+  seat-s = past-b 0 256 s (λ x. x ++ (p ++ (l ++ g))) (seated-here s (p ++ (l ++ g)) 256 ls)
 
-  seat-p : Seated (seven a c r b s p l) 2690 256 p (λ x. seven a c r b s x l)
-  seat-p = past-b 256 256 p (λ x. s ++ (x ++ l)) (seated-past s (p ++ l) 256 0 256 p (λ x. x ++ l) ls (seated-here p l 256 lp))
+  seat-p : Seated (eight a c r b s p l g) 2690 256 p (λ x. eight a c r b s x l g)
+  seat-p = past-b 256 256 p (λ x. s ++ (x ++ (l ++ g))) (seated-past s (p ++ (l ++ g)) 256 0 256 p (λ x. x ++ (l ++ g)) ls (seated-here p (l ++ g) 256 lp))
 
-  seat-l : Seated (seven a c r b s p l) 2946 14 l (λ x. seven a c r b s p x)
-  seat-l = past-b 512 14 l (λ x. s ++ (p ++ x)) (seated-past s (p ++ l) 256 256 14 l (λ x. p ++ x) ls (seated-past p l 256 0 14 l (λ x. x) lp (seated-alone l 14 ll)))
+  seat-l : Seated (eight a c r b s p l g) 2946 17 l (λ x. eight a c r b s p x g)
+  seat-l = past-b 512 17 l (λ x. s ++ (p ++ (x ++ g))) (seated-past s (p ++ (l ++ g)) 256 256 17 l (λ x. p ++ (x ++ g)) ls (seated-past p (l ++ g) 256 0 17 l (λ x. x ++ g) lp (seated-here l g 17 ll)))
+
+  seat-g : Seated (eight a c r b s p l g) 2963 9 g (λ x. eight a c r b s p l x)
+  seat-g =
+      past-b 529 9 g (λ x. s ++ (p ++ (l ++ x)))
+      (seated-past s (p ++ (l ++ g)) 256 273 9 g (λ x. p ++ (l ++ x)) ls (seated-past p (l ++ g) 256 17 9 g (λ x. l ++ x) lp (seated-past l g 17 0 9 g (λ x. x) ll (seated-alone g 9 lg))))
 
 -- HOW LONG EACH REGION IS
 pub all-true : {A : Type 0} (xs : List A) → all (λ x. true) xs ≡ true
@@ -155,7 +163,7 @@ abbrev pub atomsPut : State → List Atom → State
 atomsPut st listed = withBody st (withAtoms listed (st .body))
 
 abbrev pub seenPut : State → Holds → List Label → State
-seenPut st h seen = record { at = st .at; seen = seen; running = h; texts = st .texts; formula = st .formula; body = st .body }
+seenPut st h seen = record { at = st .at; seen = seen; running = h; texts = st .texts; formula = st .formula; geometry = st .geometry; body = st .body }
 
 seen-length : (k c : ℕ) (seen : List Label) → length (seenFrom k c seen) ≡ k
 unfolding seenFrom
@@ -171,28 +179,32 @@ module _ (st : State) (z : Sized st) where
   shown-long Centres = keyed-long Centres (st .body .centres) (z .rows Centres)
   shown-long Pairs = keyed-long Pairs (st .body .pairs) (z .rows Pairs)
 
-  -- any fact of the seven regions, from their lengths
-  by-seven : (F : (a c r b s p l : List ℕ) → Type 0) → ((a c r b s p l : List ℕ) → length a ≡ 768 → length c ≡ 321 → length r ≡ 321 → length b ≡ 1024 → length s ≡ 256 → length p ≡ 256 → length l ≡ 14 → F a c r b s p l)
+  -- any fact of the eight regions, from their lengths
+  by-eight : (F : (a c r b s p l g : List ℕ) → Type 0) → ((a c r b s p l g : List ℕ) → length a ≡ 768 → length c ≡ 321 → length r ≡ 321 → length b ≡ 1024 → length s ≡ 256 → length p ≡ 256 → length l ≡ 17 → length g ≡ 9 → F a c r b s p l g)
       → F (kindsRegion (st .body .atoms)) (spreadRegion (st .body .charges)) (spreadRegion (st .body .radicals)) (keyedRegion Bonds (st .body .bonds)) (keyedRegion Centres (st .body .centres))
-      (keyedRegion Pairs (st .body .pairs)) (seenFrom 14 0 (st .seen))
+      (keyedRegion Pairs (st .body .pairs)) (seenFrom 17 0 (st .seen)) (geometryRegion (st .geometry))
   unfolding rowsOf
-  by-seven F f =
+  by-eight F f =
       f (kindsRegion (st .body .atoms)) (spreadRegion (st .body .charges)) (spreadRegion (st .body .radicals)) (keyedRegion Bonds (st .body .bonds)) (keyedRegion Centres (st .body .centres))
-      (keyedRegion Pairs (st .body .pairs)) (seenFrom 14 0 (st .seen)) (kinds-long (st .body .atoms) (z .atoms)) (shown-long Charges) (shown-long Radicals) (shown-long Bonds) (shown-long Centres)
-      (shown-long Pairs) (seen-length 14 0 (st .seen))
+      (keyedRegion Pairs (st .body .pairs)) (seenFrom 17 0 (st .seen)) (geometryRegion (st .geometry)) (kinds-long (st .body .atoms) (z .atoms)) (shown-long Charges) (shown-long Radicals) (shown-long Bonds) (shown-long Centres)
+      (shown-long Pairs) (seen-length 17 0 (st .seen)) (region-nine (st .geometry))
 
   pub list-seated : (l : ListOf) → (take (sizeOf l) (drop (fromOf l) (laid st)) ≡ shownAs l (rowsOf l (st .body))) × ((rs : List Row) → putMid (fromOf l) (sizeOf l) (laid st) (shownAs l rs) ≡ laid (rowsPut l st rs))
   unfolding laid rowsOf withRows
-  list-seated Bonds = let f = by-seven (λ a c r b s p l. Seated (seven a c r b s p l) 1410 1024 b (λ x. seven a c r x s p l)) seat-b in (f .part, λ rs. f .placed (shownAs Bonds rs))
-  list-seated Charges = let f = by-seven (λ a c r b s p l. Seated (seven a c r b s p l) 768 321 c (λ x. seven a x r b s p l)) seat-c in (f .part, λ rs. f .placed (shownAs Charges rs))
-  list-seated Radicals = let f = by-seven (λ a c r b s p l. Seated (seven a c r b s p l) 1089 321 r (λ x. seven a c x b s p l)) seat-r in (f .part, λ rs. f .placed (shownAs Radicals rs))
-  list-seated Centres = let f = by-seven (λ a c r b s p l. Seated (seven a c r b s p l) 2434 256 s (λ x. seven a c r b x p l)) seat-s in (f .part, λ rs. f .placed (shownAs Centres rs))
-  list-seated Pairs = let f = by-seven (λ a c r b s p l. Seated (seven a c r b s p l) 2690 256 p (λ x. seven a c r b s x l)) seat-p in (f .part, λ rs. f .placed (shownAs Pairs rs))
+  list-seated Bonds = let f = by-eight (λ a c r b s p l g. Seated (eight a c r b s p l g) 1410 1024 b (λ x. eight a c r x s p l g)) seat-b in (f .part, λ rs. f .placed (shownAs Bonds rs))
+  list-seated Charges = let f = by-eight (λ a c r b s p l g. Seated (eight a c r b s p l g) 768 321 c (λ x. eight a x r b s p l g)) seat-c in (f .part, λ rs. f .placed (shownAs Charges rs))
+  list-seated Radicals = let f = by-eight (λ a c r b s p l g. Seated (eight a c r b s p l g) 1089 321 r (λ x. eight a c x b s p l g)) seat-r in (f .part, λ rs. f .placed (shownAs Radicals rs))
+  list-seated Centres = let f = by-eight (λ a c r b s p l g. Seated (eight a c r b s p l g) 2434 256 s (λ x. eight a c r b x p l g)) seat-s in (f .part, λ rs. f .placed (shownAs Centres rs))
+  list-seated Pairs = let f = by-eight (λ a c r b s p l g. Seated (eight a c r b s p l g) 2690 256 p (λ x. eight a c r b s x l g)) seat-p in (f .part, λ rs. f .placed (shownAs Pairs rs))
 
   pub atoms-seated : (take 768 (drop 0 (laid st)) ≡ kindsRegion (st .body .atoms)) × ((listed : List Atom) → putMid 0 768 (laid st) (kindsRegion listed) ≡ laid (atomsPut st listed))
   unfolding laid
-  atoms-seated = let f = by-seven (λ a c r b s p l. Seated (seven a c r b s p l) 0 768 a (λ x. seven x c r b s p l)) seat-a in (f .part, λ listed. f .placed (kindsRegion listed))
+  atoms-seated = let f = by-eight (λ a c r b s p l g. Seated (eight a c r b s p l g) 0 768 a (λ x. eight x c r b s p l g)) seat-a in (f .part, λ listed. f .placed (kindsRegion listed))
 
-  pub seen-seated : (take 14 (drop 2946 (laid st)) ≡ seenFrom 14 0 (st .seen)) × ((h : Holds) (seen : List Label) → putMid 2946 14 (laid st) (seenFrom 14 0 seen) ≡ laid (seenPut st h seen))
+  pub seen-seated : (take 17 (drop 2946 (laid st)) ≡ seenFrom 17 0 (st .seen)) × ((h : Holds) (seen : List Label) → putMid 2946 17 (laid st) (seenFrom 17 0 seen) ≡ laid (seenPut st h seen))
   unfolding laid
-  seen-seated = let f = by-seven (λ a c r b s p l. Seated (seven a c r b s p l) 2946 14 l (λ x. seven a c r b s p x)) seat-l in (f .part, λ h seen. f .placed (seenFrom 14 0 seen))
+  seen-seated = let f = by-eight (λ a c r b s p l g. Seated (eight a c r b s p l g) 2946 17 l (λ x. eight a c r b s p x g)) seat-l in (f .part, λ h seen. f .placed (seenFrom 17 0 seen))
+
+  pub geometry-seated : (take 9 (drop 2963 (laid st)) ≡ geometryRegion (st .geometry)) × ((g : Geometry) → putMid 2963 9 (laid st) (geometryRegion g) ≡ laid (withGeometry st g))
+  unfolding laid
+  geometry-seated = let f = by-eight (λ a c r b s p l g. Seated (eight a c r b s p l g) 2963 9 g (λ x. eight a c r b s p l x)) seat-g in (f .part, λ g. f .placed (geometryRegion g))

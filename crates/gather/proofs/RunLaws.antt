@@ -3,6 +3,7 @@ use Prim.Native.Nat.{ℕ, _+_, _-_, _*_, _≤_, _<_}
 use mathlib.Core.Path.{_≡_, refl, sym, ap, _∙_, subst}
 use mathlib.Core.Bool.{true, false, not}
 use mathlib.Core.List.{List, [], _∷_}
+use mathlib.Core.Logic.{inl, inr}
 use native.Mathlib.Omega.{arith}
 use lib.ListN.{length, take, drop, length-drop}
 use lib.Seq.{sets, length-take-le}
@@ -10,12 +11,12 @@ use borrow.Rule.Slice.PartMut.{putMid, put-same, same-len-mid}
 use Rattle.lists.specs.Lists.{isNil}
 use Rattle.lists.proofs.Bools.{or-left}
 use Rattle.format.specs.Bytes.{Bytes, cut, fields}
-use Rattle.format.specs.Labels.{Bonds, Holds, Atoms, Rows, Label, label, known}
+use Rattle.format.specs.Labels.{Bonds, XyzRows, Holds, Atoms, Rows, Xyz, Label, label, known}
 use Rattle.format.specs.Rows.{atomShape, rowShape}
 use Rattle.format.specs.Structure.{isotope, massOk}
 use Rattle.format.specs.Reading.{Rules, State, past, atomLine, rowLine, lineStep, readLines}
 use Rattle.format.specs.Reading.{Go as going, Stop as stopping, Turn as Turned}
-use Rattle.format.proofs.ReadingLaws.{Keeps, read-go, atoms-keeps, rows-keeps}
+use Rattle.format.proofs.ReadingLaws.{Keeps, read-go, atoms-keeps, rows-keeps, Grown, step-grown}
 use Rattle.labels.specs.ShownLines.{byCode}
 use Rattle.symbols.specs.ShownSymbols.{symOfMark}
 use Rattle.symbols.specs.declared.Mark.{Mark}
@@ -58,15 +59,29 @@ past-shown k block at next p t st h l s = record {
     formula-fine = s .holding .formula-fine;
     kinds = s .holding .kinds;
     listed = s .holding .listed;
+    geometry = s .holding .geometry;
   };
 }
 
-module _ (u : Rules) (k : ℕ) (block : Bytes) (at place next : ℕ) (p q : Progress) (t s : List ℕ) (st : State) (r : Reached u k block at place p t st) (l : OneLine block place next) where
+atoms-apart : Atoms ≡ Xyz XyzRows → ⊥
+atoms-apart e = let z : _≡_ {A = ℕ} 0 1 = cc in omega arith
+
+bonds-apart : Rows Bonds ≡ Xyz XyzRows → ⊥
+bonds-apart e = let z : _≡_ {A = ℕ} 0 1 = cc in omega arith
+
+-- where XYZ does not run, its rows stay
+pub rows-stay : (st next : State) → Grown st next → (next .running ≡ Xyz XyzRows → ⊥) → next .geometry .rows ≡ st .geometry .rows
+rows-stay st next (inl e) other = e
+rows-stay st next (inr g) other = absurd (other (g .0))
+
+module _ (u : Rules) (k : ℕ) (block : Bytes) (at place next : ℕ) (p q : Progress) (t s : List ℕ) (st : State) (r : Reached u k block at place p t st) (l : OneLine block place next)
+    (other : r .state .running ≡ Xyz XyzRows → ⊥) where
   one-more : (turned : Turned) → lineStep u (r .state) (lineAt block place next) ≡ turned → Keeps (r .state) turned → ShowsTurn k block place (Go q) s turned → Reached u k block at next q s st
   one-more (going new) e f w = record {
     state = past (lineAt block place next) new;
     shows = past-shown k block place next q s new (omega (arith, l .low)) (l .high) w;
     seen = f .gone new refl .seen ∙ r .seen;
+    rows = rows-stay (r .state) new (step-grown u (r .state) (lineAt block place next) new e) (λ q. other (sym (f .gone new refl .running) ∙ q)) ∙ r .rows;
     goes = r .goes ∙ ap (readLines u (r .state)) (l .first) ∙ read-go u (r .state) new (lineAt block place next) (cut (drop next block)) e;
   }
   one-more (stopping n) e f w = absurd w
@@ -77,7 +92,7 @@ atoms-start k block at atoms t = record {
   low = omega arith;
   high = λ h. h;
   most = λ h. h;
-  goes = λ u p st e b c a g n h. record { state = st; shows = rw (sym a) h; seen = refl; goes = refl };
+  goes = λ u p st e b c a g n h. record { state = st; shows = rw (sym a) h; seen = refl; rows = refl; goes = refl };
 }
 
 module _ (k : ℕ) (block : Bytes) (at atoms place count : ℕ) (t₀ t : List ℕ) (ran : AtomsRan k block at atoms t₀ t (record { place = place; count = count }))
@@ -101,14 +116,17 @@ module _ (k : ℕ) (block : Bytes) (at atoms place count : ℕ) (t₀ t : List �
     counted : Counted (withCount 6 count p)
     counted = record { atoms = omega arith; bonds = c .bonds; charges = c .charges; radicals = c .radicals; centres = c .centres; pairs = c .pairs }
 
+    atoms-run : r .state .running ≡ Atoms
+    atoms-run = r .shows .running ∙ sym (h .running) ∙ running
+
     atom-line-is : lineStep u (r .state) (lineAt block place next) ≡ atomLine k (r .state) (fields (lineAt block place next))
     atom-line-is =
-        atom-step u (r .state) block place next (row .line) (ap isNil (r .seen) ∙ seen) (r .shows .running ∙ sym (h .running) ∙ running)
+        atom-step u (r .state) block place next (row .line) (ap isNil (r .seen) ∙ seen) atoms-run
         ∙ ap (λ (n : ℕ). atomLine n (r .state) (fields (lineAt block place next))) e
 
     atom-on : Reached u k block at next (withCount 6 (count + 1) p) (putMid 0 768 t region) st
     atom-on =
-        one-more u k block at place next (withCount 6 count p) (withCount 6 (count + 1) p) t (putMid 0 768 t region) st r (row .line)
+        one-more u k block at place next (withCount 6 count p) (withCount 6 (count + 1) p) t (putMid 0 768 t region) st r (row .line) (λ q. atoms-apart (sym atoms-run ∙ q))
         (atomLine k (r .state) (fields (lineAt block place next))) atom-line-is (atoms-keeps (r .state) k (fields (lineAt block place next)))
         (atoms-turn place (withCount 6 count p) t region (fields (lineAt block place next)) (L.Kept (count + 1)) k joins b block (r .state) (r .shows) counted)
 
@@ -126,7 +144,7 @@ bonds-start block at atoms bonds t = record {
   low = omega arith;
   high = λ h. h;
   most = λ h. h;
-  goes = λ u k p st c a b g n h. record { state = st; shows = rw (sym b) h; seen = refl; goes = refl };
+  goes = λ u k p st c a b g n h. record { state = st; shows = rw (sym b) h; seen = refl; rows = refl; goes = refl };
 }
 
 module _ (block : Bytes) (at atoms bonds place count : ℕ) (t₀ t : List ℕ) (ran : BondsRan block at atoms bonds t₀ t (record { place = place; count = count }))
@@ -143,12 +161,15 @@ module _ (block : Bytes) (at atoms bonds place count : ℕ) (t₀ t : List ℕ) 
     counts : Counted (withCount 7 count p)
     counts = record { atoms = c .atoms; bonds = few; charges = c .charges; radicals = c .radicals; centres = c .centres; pairs = c .pairs }
 
+    bonds-run : r .state .running ≡ Rows Bonds
+    bonds-run = r .shows .running ∙ sym (h .running) ∙ running
+
     bond-line-is : lineStep u (r .state) (lineAt block place next) ≡ rowLine Bonds (r .state) (fields (lineAt block place next))
-    bond-line-is = row-step u (r .state) block place next (row .line) (ap isNil (r .seen) ∙ seen) Bonds (r .shows .running ∙ sym (h .running) ∙ running)
+    bond-line-is = row-step u (r .state) block place next (row .line) (ap isNil (r .seen) ∙ seen) Bonds bonds-run
 
     bond-on : Reached u k block at next (withCount 7 more p) (putMid 1410 1024 t region) st
     bond-on =
-        one-more u k block at place next (withCount 7 count p) (withCount 7 more p) t (putMid 1410 1024 t region) st r (row .line)
+        one-more u k block at place next (withCount 7 count p) (withCount 7 more p) t (putMid 1410 1024 t region) st r (row .line) (λ q. bonds-apart (sym bonds-run ∙ q))
         (rowLine Bonds (r .state) (fields (lineAt block place next))) bond-line-is (rows-keeps (r .state) Bonds (fields (lineAt block place next)))
         (rows-turn Bonds place (withCount 7 count p) t region (fields (lineAt block place next)) (L.Kept more)
         (subst (λ (n : ℕ). LineShows Bonds n count (lineAt block place next) place (take 1024 (drop 1410 t)) region (L.Kept more)) (sym a) gathers) k block (r .state) (r .shows) counts)
@@ -162,10 +183,10 @@ module _ (block : Bytes) (at atoms bonds place count : ℕ) (t₀ t : List ℕ) 
   }
 
 -- the bonds' part of the scratch, and the scratch with it put back as long as it was
-pub bonds-long : (t : List ℕ) → length t ≡ 2960 → length (take 1024 (drop 1410 t)) ≡ 1024
+pub bonds-long : (t : List ℕ) → length t ≡ 2972 → length (take 1024 (drop 1410 t)) ≡ 1024
 bonds-long t h = length-take-le 1024 (drop 1410 t) (simp length-drop (omega arith))
 
-pub bonds-put : (t region : List ℕ) → length t ≡ 2960 → length region ≡ length (take 1024 (drop 1410 t)) → length (putMid 1410 1024 t region) ≡ 2960
+pub bonds-put : (t region : List ℕ) → length t ≡ 2972 → length region ≡ length (take 1024 (drop 1410 t)) → length (putMid 1410 1024 t region) ≡ 2972
 bonds-put t region h e = same-len-mid 1410 1024 t region e ∙ h
 
 -- a row that does not join leaves all as it is
@@ -186,7 +207,7 @@ module _ (k : ℕ) (block : Bytes) (at : ℕ) (p : Progress) (t : List ℕ) wher
     high = λ h. h;
     counted = λ c. (c, refl);
     still = λ a b. refl;
-    goes = λ u st e b c h. record { state = st; shows = h; seen = refl; goes = refl };
+    goes = λ u st e b c h. record { state = st; shows = h; seen = refl; rows = refl; goes = refl };
   }
 
   module _ (s : List ℕ) (begun : p .top ≡ 0 → ⊥) (r : Run) where

@@ -15,13 +15,16 @@ use Rattle.format.specs.Bytes.{Bytes}
 use Rattle.format.specs.Labels.{ListOf, Bonds, Charges, Radicals, Centres, Pairs}
 use Rattle.format.specs.Rows.{Row}
 use Rattle.format.specs.Structure.{Atom, Structure, rowsOf, atomOk}
+use Rattle.format.specs.Coordinates.{Geometry}
 use Rattle.format.specs.Reading.{State, withRows, withAtoms, rowLine, atomLine}
 use Rattle.sorted.specs.Steps.{After, kept, refused, rowStep, atomStep}
 use Rattle.sorted.specs.Regions.{Fits, kindsRegion}
+use Rattle.sorted.specs.GeometryRegion.{GeometryFine}
 use Rattle.sorted.specs.Shown.{ShowsLine, LineWithin, LineUntouched}
 use Rattle.sorted.specs.declared.after.LineAfter.{LineAfter}
 use Rattle.sorted.specs.declared.after.LineAfter.the-variants as L
 use Rattle.sorted.proofs.FitLaws.{fits-kept, fits-more}
+use Rattle.sorted.proofs.GeometryLaws.{fine-up}
 use Rattle.gather.specs.Progress.{laid, withCount, Counted, CountedTurn, Listed, countOf}
 use Rattle.gather.specs.Shows.{Shows, ShowsTurn}
 use Rattle.gather.specs.ListLine.{listLine, turnOf, Gathers, ListLent}
@@ -76,10 +79,10 @@ rows-listed l rs p s h f =
     }
 
 -- a part of so many numbers put back leaves as many
-pub put-long : (from size : ℕ) (t region : List ℕ) → length t ≡ 2960 → from + size ≤ 2960 → length region ≡ size → length (putMid from size t region) ≡ 2960
+pub put-long : (from size : ℕ) (t region : List ℕ) → length t ≡ 2972 → from + size ≤ 2972 → length region ≡ size → length (putMid from size t region) ≡ 2972
 put-long from size t region h k e = same-len-mid from size t region (e ∙ sym (length-take-le size (drop from t) (simp length-drop (omega arith)))) ∙ h
 
-pub part-long : (from size : ℕ) (t : List ℕ) → length t ≡ 2960 → from + size ≤ 2960 → length (take size (drop from t)) ≡ size
+pub part-long : (from size : ℕ) (t : List ℕ) → length t ≡ 2972 → from + size ≤ 2972 → length (take size (drop from t)) ≡ size
 part-long from size t h k = length-take-le size (drop from t) (simp length-drop (omega arith))
 
 -- what a list's own line says of its part of the scratch: the part stays as long; where all is as it should be, the count is within the limit, and what it shows; where it
@@ -91,7 +94,7 @@ Told size count limit place p part region r Shown =
 -- and so all that a line promises in the whole scratch
 abbrev pub Gathered : (code k place : ℕ) → List Bytes → Progress → (before after : List ℕ) → LineAfter → Type 0
 Gathered code k place fs p before after r =
-    (length after ≡ 2960) × Gathers code k place fs p before after (turnOf code p r) × ((ListLent code p before → ⊥) → LineUntouched place before after r)
+    (length after ≡ 2972) × Gathers code k place fs p before after (turnOf code p r) × ((ListLent code p before → ⊥) → LineUntouched place before after r)
 
 counted-turn : (code limit : ℕ) (p : Progress) (r : LineAfter) → ((c : ℕ) → c ≤ limit → Counted (withCount code c p)) → LineWithin limit r → CountedTurn p (turnOf code p r)
 counted-turn code limit p (L.Kept c) keeps f = (keeps c (f c refl), refl)
@@ -102,10 +105,10 @@ put-untouched : (from size place : ℕ) (t region : List ℕ) (r : LineAfter) �
 put-untouched from size place t region r w = (w .0, ap (putMid from size t) (w .1) ∙ put-same from size t)
 
 -- `own` is the list's code
-told-gathers : (code k place : ℕ) (fs : List Bytes) (p : Progress) (t region : List ℕ) (r : LineAfter) (own from size count limit : ℕ) (Shown : Type 0) → from + size ≤ 2960
+told-gathers : (code k place : ℕ) (fs : List Bytes) (p : Progress) (t region : List ℕ) (r : LineAfter) (own from size count limit : ℕ) (Shown : Type 0) → from + size ≤ 2972
     → ((c : ℕ) → Counted p → c ≤ limit → Counted (withCount own c p))
     → (Counted p → 1 ≤ k → Shown → (block : Bytes) (st : State) → Shows k block place p t st → ShowsTurn k block place (turnOf own p r) (putMid from size t region) (listLine own k st fs))
-    → Own code own count limit p → Told size count limit place p (take size (drop from t)) region r Shown → length t ≡ 2960
+    → Own code own count limit p → Told size count limit place p (take size (drop from t)) region r Shown → length t ≡ 2972
     → Gathered code k place fs p t (putMid from size t region) r
 told-gathers code k place fs p t region r own from size count limit Shown room keeps shows is told long =
     let w = part-long from size t long room in (
@@ -115,7 +118,7 @@ told-gathers code k place fs p t region r own from size count limit Shown room k
     )
 
 -- ONE OF THE FIVE LISTS
-region-within : (l : ListOf) → fromOf l + sizeOf l ≤ 2960
+region-within : (l : ListOf) → fromOf l + sizeOf l ≤ 2972
 region-within Bonds = omega arith
 region-within Charges = omega arith
 region-within Radicals = omega arith
@@ -140,6 +143,7 @@ module _ (l : ListOf) (at : ℕ) (p : Progress) (t region : List ℕ) (fs : List
         formula-fine = h .holding .formula-fine;
         kinds = rw (rows-alone l next (st .body) 0 p .0) (h .holding .kinds);
         listed = rows-listed l next p (st .body) (h .holding .listed) f;
+        geometry = rw (rows-alone l next (st .body) (length next) p .2) (h .holding .geometry);
       };
     }
 
@@ -157,7 +161,7 @@ module _ (l : ListOf) (at : ℕ) (p : Progress) (t region : List ℕ) (fs : List
         go (refused n) e s = rw (line-is (refused n) e, s) (refl, refl)
 
 pub rows-gather : (l : ListOf) (code k place : ℕ) (fs : List Bytes) (p : Progress) (t region : List ℕ) (r : LineAfter)
-    → Own code (codeOf l) (countOf l p) (limitOf l) p → Told (sizeOf l) (countOf l p) (limitOf l) place p (take (sizeOf l) (drop (fromOf l) t)) region r (RowsShown l place p t region fs r) → length t ≡ 2960
+    → Own code (codeOf l) (countOf l p) (limitOf l) p → Told (sizeOf l) (countOf l p) (limitOf l) place p (take (sizeOf l) (drop (fromOf l) t)) region r (RowsShown l place p t region fs r) → length t ≡ 2972
     → Gathered code k place fs p t (putMid (fromOf l) (sizeOf l) t region) r
 rows-gather l code k place fs p t region r =
     told-gathers code k place fs p t region r (codeOf l) (fromOf l) (sizeOf l) (countOf l p) (limitOf l) (RowsShown l place p t region fs r) (region-within l) (λ n c. counted-kept l n p c)
@@ -172,6 +176,11 @@ atom-fits k listed next (inr a) l rs f = let q : length next ≡ suc (length lis
 atom-kinds : (k : ℕ) (listed next : List Atom) → ((next ≡ listed) ⊎ AtomAdded k listed next) → all (atomOk k) listed ≡ true → all (atomOk k) next ≡ true
 atom-kinds k listed next (inl e) h = ap (all (atomOk k)) e ∙ h
 atom-kinds k listed next (inr a) h = ap (all (atomOk k)) (a .is) ∙ all-append-both (atomOk k) listed (a .new ∷ []) h (all-one (atomOk k) (a .new) ∙ a .fine)
+
+-- and the rows of XYZ naming listed atoms
+atom-geometry : (k : ℕ) (listed next : List Atom) (n : ℕ) (g : Geometry) → ((next ≡ listed) ⊎ AtomAdded k listed next) → length listed ≡ n → GeometryFine n g → GeometryFine (length next) g
+atom-geometry k listed next n g (inl e) q h = rw (e, q) h
+atom-geometry k listed next n g (inr a) q h = fine-up n (length next) g (omega (arith, q, ap length (a .is) ∙ length-append listed (a .new ∷ []))) h
 
 abbrev pub AtomsShown : (place : ℕ) → Progress → (t region : List ℕ) → List Bytes → LineAfter → (k : ℕ) → Type 0
 AtomsShown place p t region fs r k = (listed : List Atom) → length listed ≡ p .atoms → take 768 (drop 0 t) ≡ kindsRegion listed → ShowsLine kindsRegion place region r (atomStep k listed fs)
@@ -202,6 +211,7 @@ module _ (at : ℕ) (p : Progress) (t region : List ℕ) (fs : List Bytes) (r : 
         formula-fine = h .holding .formula-fine;
         kinds = atom-kinds k (st .body .atoms) next a (h .holding .kinds);
         listed = atoms-listed next a;
+        geometry = atom-geometry k (st .body .atoms) next (p .atoms) (st .geometry) a (h .holding .listed .atoms) (h .holding .geometry);
       };
     }
 
@@ -218,7 +228,7 @@ module _ (at : ℕ) (p : Progress) (t region : List ℕ) (fs : List Bytes) (r : 
         go (refused n) e s = rw (line-is (refused n) e, s) (refl, refl)
 
 pub atoms-gather : (code k place : ℕ) (fs : List Bytes) (p : Progress) (t region : List ℕ) (r : LineAfter)
-    → Own code 6 (p .atoms) 256 p → Told 768 (p .atoms) 256 place p (take 768 (drop 0 t)) region r (AtomsShown place p t region fs r k) → length t ≡ 2960
+    → Own code 6 (p .atoms) 256 p → Told 768 (p .atoms) 256 place p (take 768 (drop 0 t)) region r (AtomsShown place p t region fs r k) → length t ≡ 2972
     → Gathered code k place fs p t (putMid 0 768 t region) r
 atoms-gather code k place fs p t region r =
     told-gathers code k place fs p t region r 6 0 768 (p .atoms) 256 (AtomsShown place p t region fs r k) (omega arith)

@@ -13,6 +13,7 @@ use Rattle.format.specs.Formula.{Counted as Told, formulaShape}
 use Rattle.format.specs.Structure.{Structure, Entry, entry, isotope, atomOk, rowsOf}
 use Rattle.format.specs.Reading.{Prose, prose, State}
 use Rattle.sorted.specs.Regions.{kindsRegion, spreadRegion, keyedRegion, seenFrom, Fits}
+use Rattle.sorted.specs.GeometryRegion.{geometryRegion, GeometryFine}
 use Rattle.gather.specs.declared.progress.Part.{Part}
 use Rattle.gather.specs.declared.progress.Progress.{Progress}
 use Rattle.gather.specs.declared.progress.Turn.{Turn}
@@ -42,7 +43,7 @@ countOf Centres p = p .centres
 countOf Pairs p = p .pairs
 
 -- The scratch of a state: the atoms from 0 on, charges from 768, radicals from 1,089, bonds from 1,410, centres from 2,434, pairs from 2,690, labels seen from
--- 2,946 to 2,959
+-- 2,946, the geometry from 2,963 to 2,971
 unfoldable pub laid : State → List ℕ
 laid st =
     kindsRegion (st .body .atoms)
@@ -51,7 +52,7 @@ laid st =
     ++ (keyedRegion Bonds (st .body .bonds)
     ++ (keyedRegion Centres (st .body .centres)
     ++ (keyedRegion Pairs (st .body .pairs)
-    ++ seenFrom 14 0 (st .seen))))))
+    ++ (seenFrom 17 0 (st .seen) ++ geometryRegion (st .geometry)))))))
 
 -- What holds of the numbers alone: each count within its limit
 pub record Counted (p : Progress) : Type 0 where
@@ -70,7 +71,7 @@ pub record Within (size : ℕ) (x : Part) : Type 0 where
 -- and each part within the block
 pub record Bounded (size : ℕ) (p : Progress) : Type 0 where
   pub counted : Counted p
-  pub code : p .running < 14
+  pub code : p .running < 17
   pub title : Within size (p .title)
   pub origin : Within size (p .origin)
   pub owner : Within size (p .owner)
@@ -163,7 +164,7 @@ pub record Listed (p : Progress) (s : Structure) : Type 0 where
 abbrev pub entryFine : (k : ℕ) → Entry → Bool
 entryFine k e = within 1 k (e .kind .element) && (leb (e .kind .mass) 300 && within 1 9999 (e .count))
 
--- What stands in progress and scratch of a state, k elements known: the texts, the formula, the structure, the labels seen
+-- What stands in progress and scratch of a state, k elements known: the texts, the formula, the structure, the labels seen, the geometry
 pub record Holding (k : ℕ) (block : Bytes) (p : Progress) (t : List ℕ) (st : State) : Type 0 where
   pub scratch : t ≡ laid st
   pub texts : st .texts ≡ proseAt block (p .title) ∷ proseAt block (p .origin) ∷ proseAt block (p .owner) ∷ []
@@ -171,3 +172,4 @@ pub record Holding (k : ℕ) (block : Bytes) (p : Progress) (t : List ℕ) (st :
   pub formula-fine : all (entryFine k) (st .formula) ≡ true
   pub kinds : all (atomOk k) (st .body .atoms) ≡ true
   pub listed : Listed p (st .body)
+  pub geometry : GeometryFine (p .atoms) (st .geometry)

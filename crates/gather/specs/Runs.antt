@@ -17,10 +17,12 @@ use Rattle.gather.specs.declared.runs.Run.{Run}
 use Rattle.gather.specs.declared.Ran.{Ran}
 
 -- the reading of the lines from `at` on, in the state st, is that of the lines from `place` on in another state, which p and t show; it has seen the same labels
+-- and has the same rows of XYZ
 pub record Reached (u : Rules) (k : ℕ) (block : Bytes) (at place : ℕ) (p : Progress) (t : List ℕ) (st : State) : Type 0 where
   pub state : State
   pub shows : Shows k block place p t state
   pub seen : state .seen ≡ st .seen
+  pub rows : state .geometry .rows ≡ st .geometry .rows
   pub goes : readLines u st (cut (drop at block)) ≡ readLines u state (cut (drop place block))
 
 -- a list's rows from `at` to the run's place were gathered

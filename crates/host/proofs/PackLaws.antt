@@ -1,14 +1,13 @@
 -- The numbers of the C door from what is known of an answer: document 01, "The C host calls a check of one block". Assumes nothing.
 use Prim.Native.Nat.{ℕ, _+_, _-_, _*_, _≤_, _<_}
 use mathlib.Core.Path.{_≡_, refl, sym, ap, ap₂, _∙_}
-use mathlib.Core.List.{List, [], _∷_}
+use mathlib.Core.List.{[], _∷_}
 use native.Mathlib.Omega.{arith}
-use lib.IntN.{ℤ}
 use lib.ListN.{length}
 use borrow.Author.Tests.{lt-ltb, le-ltb}
 use Rattle.format.specs.Bytes.{Bytes, cut}
 use Rattle.format.specs.Reading.{spanFrom}
-use Rattle.format.specs.Table.{ReadResult}
+use Rattle.format.specs.Table.{Lent, ReadResult}
 use Rattle.format.specs.Writing.{WriteResult}
 use Rattle.format.specs.Walking.{titleOf, packed, packedResult}
 use Rattle.reader.specs.declared.Answer.{Answer}
@@ -21,13 +20,13 @@ use Rattle.writer.specs.declared.Answer.the-variants as W
 use Rattle.writer.specs.Answers.{shown as shownWrite}
 use Rattle.host.specs.Packed.{packedSpan, packedTitle, packedWritten}
 
--- a reading's answer, from the variant it is, and the table after it
-module _ (x : ReadResult) (r k : Answer) (t : List ℤ) (h : shownRead r t ≡ x) (e : r ≡ k) where
-  pub read-packed : packedResult (shownRead k t) ≡ packedResult x
-  read-packed = ap packedResult (ap (λ (a : Answer). shownRead a t) (sym e) ∙ h)
+-- a reading's answer, from the variant it is, and the tables after it
+module _ (x : ReadResult) (r k : Answer) (l : Lent) (h : shownRead r l ≡ x) (e : r ≡ k) where
+  pub read-packed : packedResult (shownRead k l) ≡ packedResult x
+  read-packed = ap packedResult (ap (λ (a : Answer). shownRead a l) (sym e) ∙ h)
 
-  pub read-table : shownRead k t .table ≡ x .table
-  read-table = ap (λ (y : ReadResult). y .table) (ap (λ (a : Answer). shownRead a t) (sym e) ∙ h)
+  pub read-tables : shownRead k l .after ≡ x .after
+  read-tables = ap (λ (y : ReadResult). y .after) (ap (λ (a : Answer). shownRead a l) (sym e) ∙ h)
 
 -- a writing's answer, from the variant it is, and the buffer after it
 module _ (x : WriteResult) (r k : Written) (b : Bytes) (h : shownWrite r b ≡ x) (e : r ≡ k) where

@@ -1,7 +1,7 @@
 // The C door: document 01, "The C host calls a check of one block". Every function answers for every input; include/galebonnet.h says each answer in words. No
 // rule of the format stands here. A `&[u8]` lies in the call as a pointer and a count.
 ghost use mathlib.Core.Path.{_≡_};
-ghost use Rattle.format.specs.Table.{readResult};
+ghost use Rattle.format.specs.Table.{lent, readResult};
 ghost use Rattle.format.specs.Walking.{checkOf, packedResult, walkAt};
 ghost use Rattle.format.specs.Writing.{writeResult};
 ghost use Rattle.host.specs.Packed.{packedWalk, packedTitle, packedWritten};
@@ -17,13 +17,13 @@ pub extern "C" fn galebonnet_check(block: &[u8]) -> u64
     reader::check(block)
 }
 
-// The same number, and the table filled, zeroed or untouched.
+// The same number, or 1 where a table is short, and both tables filled, zeroed or untouched.
 #[no_mangle]
-pub extern "C" fn galebonnet_read(block: &[u8], table: &mut [i32]) -> u64
-    ensures answer { λ r. ⌜ r ≡ packedResult (readResult 103 (now (block .entry)) (now (table .entry))) ⌝ }
-    ensures filled { λ r. ⌜ now (table .exit) ≡ readResult 103 (now (block .entry)) (now (table .entry)) .table ⌝ }
+pub extern "C" fn galebonnet_read(block: &[u8], table: &mut [i32], positions: &mut [f64]) -> u64
+    ensures answer { λ r. ⌜ r ≡ packedResult (readResult 103 (now (block .entry)) (lent (now (table .entry)) (now (positions .entry)))) ⌝ }
+    ensures filled { λ r. ⌜ lent (now (table .exit)) (now (positions .exit)) ≡ readResult 103 (now (block .entry)) (lent (now (table .entry)) (now (positions .entry))) .after ⌝ }
 {
-    let answer = reader::read(block, table);
+    let answer = reader::read(block, table, positions);
     match answer {
         Answer::Accepted => 0,
         Answer::Refused(number, place) => (number as u64) * 4294967296 + place as u64,

@@ -5,4 +5,5 @@ pub mod LineTurnLaws
 pub mod TextTurnLaws
 pub mod StepTurnLaws
 pub mod LabelTurnLaws
+pub mod XyzTurnLaws
 pub mod BlockLaws

@@ -27,7 +27,7 @@ use Rattle.gather.specs.declared.progress.Progress.{Progress}
 use Rattle.gather.specs.declared.progress.Turn.the-variants.{Go, Stop}
 use Rattle.gather.proofs.LaidLaws.{sized, atoms-seated, seen-seated}
 use Rattle.gather.proofs.KindLaws.{countedIn, formula-fine}
-use Rattle.judgement.specs.Lines.{rulesOf, withTexts, textPut}
+use Rattle.judgement.specs.Lines.{rulesOf, withTexts, textPut, geometryEnd}
 use Rattle.judgement.specs.Values.{ShowsId}
 use Rattle.judgement.specs.declared.rules.Rules.{Rules as Given}
 use Rattle.judgement.specs.declared.values.BlockId.{BlockId as Answered}
@@ -112,6 +112,7 @@ id-shown n k block at p t st h = record {
     formula-fine = h .holding .formula-fine;
     kinds = h .holding .kinds;
     listed = listed-as p (withNumber n p) n st (h .holding .listed) refl (λ l. elim l [ Bonds ↦ refl | Charges ↦ refl | Radicals ↦ refl | Centres ↦ refl | Pairs ↦ refl ]) refl;
+    geometry = h .holding .geometry;
   };
 }
 
@@ -158,6 +159,7 @@ formula-shown k block at from to n p t st low e z h = record {
     formula-fine = taken-fine k (partOf block from to) (formulaShape (partOf block from to)) low refl (sym e ∙ z);
     kinds = h .holding .kinds;
     listed = listed-as p (withPart (record { from = from; to = to }) p) (st .body .id) st (h .holding .listed) refl (λ l. elim l [ Bonds ↦ refl | Charges ↦ refl | Radicals ↦ refl | Centres ↦ refl | Pairs ↦ refl ]) (h .holding .listed .id);
+    geometry = h .holding .geometry;
   };
 }
 
@@ -192,20 +194,20 @@ some-of zero h = absurd (h refl)
 some-of (suc n) h = omega arith
 
 module _ (u : Given) (block : Bytes) (at : ℕ) (p : Progress) (t : List ℕ) (st : State) (c : Counted p) (h : Shows (u .last) block at p t st) (fs : List Bytes) where
-  seen-part : take 14 (drop 2946 t) ≡ seenFrom 14 0 (st .seen)
-  seen-part = ap (λ (s : List ℕ). take 14 (drop 2946 s)) (h .holding .scratch) ∙ seen-seated st (sized p st c (h .holding .listed)) .0
+  seen-part : take 17 (drop 2946 t) ≡ seenFrom 17 0 (st .seen)
+  seen-part = ap (λ (s : List ℕ). take 17 (drop 2946 s)) (h .holding .scratch) ∙ seen-seated st (sized p st c (h .holding .listed)) .0
 
   abbrev LacksTold : Bool → Type 0
-  LacksTold b = (labels : List Label) → take 14 (drop 2946 t) ≡ seenFrom 14 0 labels → b ≡ any (lacks labels) (2 ∷ 3 ∷ 4 ∷ 5 ∷ [])
+  LacksTold b = (labels : List Label) → take 17 (drop 2946 t) ≡ seenFrom 17 0 labels → b ≡ any (lacks labels) (2 ∷ 3 ∷ 4 ∷ 5 ∷ [])
 
   end-is : (a b f g : Bool) → any (lacks (st .seen)) (2 ∷ 3 ∷ 4 ∷ 5 ∷ []) ≡ a → eqb (atomCount st) 0 ≡ b → isNil fs ≡ f → (u .totals && not (agree (st .formula) (entriesOf (st .body .atoms)))) ≡ g
-      → endTurn (rulesOf u) st fs ≡ (if a || b stop 8 else if not f stop 9 else if g stop 15 else going st)
+      → endTurn (rulesOf u) st fs ≡ (if a || b stop 8 else if not f stop 9 else if g stop 15 else geometryEnd st)
   unfolding endTurn
   end-is a b f g p q r s =
-      ap (λ (x : Bool). if x || eqb (atomCount st) 0 stop 8 else if not (isNil fs) stop 9 else if u .totals && not (agree (st .formula) (entriesOf (st .body .atoms))) stop 15 else going st) p
-      ∙ ap (λ (x : Bool). if a || x stop 8 else if not (isNil fs) stop 9 else if u .totals && not (agree (st .formula) (entriesOf (st .body .atoms))) stop 15 else going st) q
-      ∙ ap (λ (x : Bool). if a || b stop 8 else if not x stop 9 else if u .totals && not (agree (st .formula) (entriesOf (st .body .atoms))) stop 15 else going st) r
-      ∙ ap (λ (x : Bool). if a || b stop 8 else if not f stop 9 else if x stop 15 else going st) s
+      ap (λ (x : Bool). if x || eqb (atomCount st) 0 stop 8 else if not (isNil fs) stop 9 else if u .totals && not (agree (st .formula) (entriesOf (st .body .atoms))) stop 15 else geometryEnd st) p
+      ∙ ap (λ (x : Bool). if a || x stop 8 else if not (isNil fs) stop 9 else if u .totals && not (agree (st .formula) (entriesOf (st .body .atoms))) stop 15 else geometryEnd st) q
+      ∙ ap (λ (x : Bool). if a || b stop 8 else if not x stop 9 else if u .totals && not (agree (st .formula) (entriesOf (st .body .atoms))) stop 15 else geometryEnd st) r
+      ∙ ap (λ (x : Bool). if a || b stop 8 else if not f stop 9 else if x stop 15 else geometryEnd st) s
 
   none-listed : (p .atoms ≡ 0 → ⊥) → eqb (atomCount st) 0 ≡ false
   none-listed n = ne-eqb (atomCount st) 0 (λ e. n (sym (h .holding .listed .atoms) ∙ e))
@@ -223,7 +225,7 @@ module _ (u : Given) (block : Bytes) (at : ℕ) (p : Progress) (t : List ℕ) (s
     pub end-valued : lack ≡ false → (p .atoms ≡ 0 → ⊥) → isNil fs ≡ false → endTurn (rulesOf u) st fs ≡ stopping 9
     end-valued e n f = end-is false false false _ (lack-is false e) (none-listed n) f refl
 
-    pub end-untested : lack ≡ false → (p .atoms ≡ 0 → ⊥) → isNil fs ≡ true → u .totals ≡ false → endTurn (rulesOf u) st fs ≡ going st
+    pub end-untested : lack ≡ false → (p .atoms ≡ 0 → ⊥) → isNil fs ≡ true → u .totals ≡ false → endTurn (rulesOf u) st fs ≡ geometryEnd st
     end-untested e n f g = end-is false false true false (lack-is false e) (none-listed n) f (ap (λ (x : Bool). x && not (agree (st .formula) (entriesOf (st .body .atoms)))) g)
 
     module _ (same : Bool) (agreed : same ≡ agree (st .formula) (entriesOf (st .body .atoms))) (e : lack ≡ false) (n : p .atoms ≡ 0 → ⊥) (f : isNil fs ≡ true) (g : u .totals ≡ true) where
@@ -233,11 +235,11 @@ module _ (u : Given) (block : Bytes) (at : ℕ) (p : Progress) (t : List ℕ) (s
       pub end-differs : same ≡ false → endTurn (rulesOf u) st fs ≡ stopping 15
       end-differs q = end-is false false true true (lack-is false e) (none-listed n) f (tested false q)
 
-      pub end-agrees : same ≡ true → endTurn (rulesOf u) st fs ≡ going st
+      pub end-agrees : same ≡ true → endTurn (rulesOf u) st fs ≡ geometryEnd st
       end-agrees q = end-is false false true false (lack-is false e) (none-listed n) f (tested true q)
 
   -- what the totals' function promises, said of this state
-  pub totals-told : length t ≡ 2960 → (p .atoms ≡ 0 → ⊥) → u .last ≤ 103 → (same : Bool)
+  pub totals-told : length t ≡ 2972 → (p .atoms ≡ 0 → ⊥) → u .last ≤ 103 → (same : Bool)
       → ((listed : List Atom) → length (take 768 (drop 0 t)) ≡ 768 → 0 < p .atoms → p .atoms ≤ 256 → u .last ≤ 103 → length listed ≡ p .atoms → take 768 (drop 0 t) ≡ kindsRegion listed → all (atomOk (u .last)) listed ≡ true → all (entryFine (u .last)) (formulaAt (u .last) block (p .formula)) ≡ true
       → same ≡ agree (formulaAt (u .last) block (p .formula)) (entriesOf listed)) → same ≡ agree (st .formula) (entriesOf (st .body .atoms))
   totals-told long n most same f =

@@ -1,5 +1,5 @@
 -- A value on its label line and a further line, by the record that runs, from what each record's function promises: document 01, "Lines and labels". Assumes nothing.
-use Prim.Native.Nat.{ℕ, zero, suc, _+_, _≤_, _<_}
+use Prim.Native.Nat.{ℕ, zero, suc, _+_, _-_, _≤_, _<_}
 use mathlib.Core.Path.{_≡_, refl, sym, ap, _∙_}
 use mathlib.Core.Bool.{false}
 use mathlib.Core.List.{List, [], _++_}
@@ -10,10 +10,11 @@ use borrow.Author.Tests.{ne-eqb}
 use Rattle.format.specs.Bytes.{Bytes, fields, strip}
 use Rattle.format.specs.Labels.{Holds, label, known, lookup}
 use Rattle.format.specs.Formula.{formulaShape}
-use Rattle.format.specs.Reading.{Rules, Prose, prose, State, withText, extended, versionTurn, idTurn, formulaTurn, blankOr, endTurn, valueTurn, furtherTurn}
+use Rattle.format.specs.Reading.{Rules, Prose, prose, State, withText, extended, versionTurn, idTurn, formulaTurn, blankOr, endTurn, xyzLine, xyzValue, xyzFurther, valueTurn, furtherTurn}
 use Rattle.format.specs.Reading.{Go as going, Turn as Turned}
 use Rattle.lines.specs.Cuts.{Uncommented}
 use Rattle.labels.specs.ShownLines.{byCode}
+use Rattle.geometry.specs.LineNoted.{recordOf}
 use Rattle.gather.specs.Progress.{partOf, proseAt, Within, Bounded, BoundedTurn, Flowing, FlowingTurn}
 use Rattle.gather.specs.Shows.{Shows, ShowsTurn}
 use Rattle.gather.specs.ListLine.{listLine, Gathers}
@@ -30,7 +31,7 @@ use Rattle.judgement.proofs.TextTurnLaws.{strip-part, part-join, kept-b
 -- THE LISTS' CODES
 -- what a line of a list at its place promises, by the code of the record that runs
 abbrev pub ListPromise : (at k : ℕ) → Progress → List ℕ → Turn → List ℕ → List Bytes → Type 0
-ListPromise at k p t r s fs = (length s ≡ length t) × (length t ≡ 2960 → Gathers (p .running) k at fs p t s r)
+ListPromise at k p t r s fs = (length s ≡ length t) × (length t ≡ 2972 → Gathers (p .running) k at fs p t s r)
 
 -- the codes 3 and 4 as the code tests them
 three-or-four : (n : ℕ) → 3 ≤ n → n < 5 → (n ≡ 3) ⊎ (n ≡ 4)
@@ -76,11 +77,37 @@ further-as-list u (suc (suc (suc (suc (suc (suc (suc (suc (suc (suc zero))))))))
 further-as-list u (suc (suc (suc (suc (suc (suc (suc (suc (suc (suc (suc zero))))))))))) v st a z = refl
 further-as-list u (suc (suc (suc (suc (suc (suc (suc (suc (suc (suc (suc (suc n)))))))))))) v st a z = absurd (omega arith)
 
+-- THE GEOMETRY'S CODES
+abbrev pub GeometryPromise : (at : ℕ) → Progress → List ℕ → Turn → List ℕ → List Bytes → Type 0
+GeometryPromise at p t r s fs =
+    (length s ≡ 2972) × KeptTurn p r × ((k : ℕ) (block : Bytes) (st : State) → Shows k block at p t st → ShowsTurn k block at r s (xyzValue (recordOf (p .running)) st fs))
+
+value-at-14 : (u : Rules) (from : ℕ) (v : Bytes) (st : State) → valueTurn u (byCode 14 known .holds) st from v ≡ xyzValue (recordOf 14) st (fields (strip v))
+unfolding byCode known label valueTurn
+value-at-14 u from v st = refl
+
+value-at-15 : (u : Rules) (from : ℕ) (v : Bytes) (st : State) → valueTurn u (byCode 15 known .holds) st from v ≡ xyzValue (recordOf 15) st (fields (strip v))
+unfolding byCode known label valueTurn
+value-at-15 u from v st = refl
+
+value-at-16 : (u : Rules) (from : ℕ) (v : Bytes) (st : State) → valueTurn u (byCode 16 known .holds) st from v ≡ xyzValue (recordOf 16) st (fields (strip v))
+unfolding byCode known label valueTurn
+value-at-16 u from v st = refl
+
+value-as-geometry : (u : Rules) (n from : ℕ) (v : Bytes) (st : State) → 14 ≤ n → n ≤ 16 → valueTurn u (byCode n known .holds) st from v ≡ xyzValue (recordOf n) st (fields (strip v))
+value-as-geometry u n from v st a z = by (n - 14) (omega arith) (omega arith)
+  where
+    by : (i : ℕ) → n ≡ 14 + i → i ≤ 2 → valueTurn u (byCode n known .holds) st from v ≡ xyzValue (recordOf n) st (fields (strip v))
+    by zero e h = ap (λ (m : ℕ). valueTurn u (byCode m known .holds) st from v) e ∙ value-at-14 u from v st ∙ ap (λ (m : ℕ). xyzValue (recordOf m) st (fields (strip v))) (sym e)
+    by (suc zero) e h = ap (λ (m : ℕ). valueTurn u (byCode m known .holds) st from v) e ∙ value-at-15 u from v st ∙ ap (λ (m : ℕ). xyzValue (recordOf m) st (fields (strip v))) (sym e)
+    by (suc (suc zero)) e h = ap (λ (m : ℕ). valueTurn u (byCode m known .holds) st from v) e ∙ value-at-16 u from v st ∙ ap (λ (m : ℕ). xyzValue (recordOf m) st (fields (strip v))) (sym e)
+    by (suc (suc (suc i))) e h = absurd (omega arith)
+
 -- A VALUE ON ITS LABEL LINE
-module _ (block : Bytes) (at from end : ℕ) (u : Given) (p : Progress) (t : List ℕ) (long : length t ≡ 2960) (b : Bounded (length block) p) (h : from ≤ end) (l : end ≤ length block) where
+module _ (block : Bytes) (at from end : ℕ) (u : Given) (p : Progress) (t : List ℕ) (long : length t ≡ 2972) (b : Bounded (length block) p) (h : from ≤ end) (l : end ≤ length block) where
   abbrev pub ValuePromise : Turn → List ℕ → Type 0
   ValuePromise r s =
-      (length s ≡ 2960) × BoundedTurn (length block) r × FlowingTurn end r
+      (length s ≡ 2972) × BoundedTurn (length block) r × FlowingTurn end r
       × ((st : State) → Shows (u .last) block at p t st → ShowsTurn (u .last) block at r s (valueTurn (rulesOf u) (byCode (p .running) known .holds) st from (partOf block from end)))
 
   value-at : (c : ℕ) → p .running ≡ c → (st : State) → valueTurn (rulesOf u) (byCode (p .running) known .holds) st from (partOf block from end) ≡ valueTurn (rulesOf u) (byCode c known .holds) st from (partOf block from end)
@@ -159,6 +186,15 @@ module _ (block : Bytes) (at from end : ℕ) (u : Given) (p : Progress) (t : Lis
       λ st s. turn-shown (u .last) block at r t _ _ (value-at 13 e st ∙ stripped (λ v. endTurn (rulesOf u) st (fields v))) (q .1 st s),
     )
 
+    pub value-geometry : (s : List ℕ) → (14 ≤ p .running) × (p .running ≤ 16) → GeometryPromise at p t r s (fields (partOf block from (from + m))) → ValuePromise r s
+    value-geometry s code q = (
+      q .0,
+      kept-bounded (length block) p r (q .1) b,
+      flowing-silent end p r (kept-running p r (q .1)) (six-silent (p .running) (omega (arith, code .0))),
+      λ st v. turn-shown (u .last) block at r s _ _
+          (value-as-geometry (rulesOf u) (p .running) from (partOf block from end) st (code .0) (code .1) ∙ stripped (λ x. xyzValue (recordOf (p .running)) st (fields x))) (q .2 (u .last) block st v),
+    )
+
     pub value-list : (s : List ℕ) → (6 ≤ p .running) × (p .running ≤ 11) → 1 ≤ u .last
         → ListPromise at (u .last) p t r s (fields (partOf block from (from + m)))
         → ValuePromise r s
@@ -172,10 +208,10 @@ module _ (block : Bytes) (at from end : ℕ) (u : Given) (p : Progress) (t : Lis
         )
 
 -- A FURTHER LINE OF THE RECORD
-module _ (block : Bytes) (at end : ℕ) (u : Given) (p : Progress) (t : List ℕ) (long : length t ≡ 2960) (b : Bounded (length block) p) (f : Flowing at p) (h : at ≤ end) (l : end ≤ length block) where
+module _ (block : Bytes) (at end : ℕ) (u : Given) (p : Progress) (t : List ℕ) (long : length t ≡ 2972) (b : Bounded (length block) p) (f : Flowing at p) (h : at ≤ end) (l : end ≤ length block) where
   abbrev pub FurtherPromise : Turn → List ℕ → Type 0
   FurtherPromise r s =
-      (length s ≡ 2960) × BoundedTurn (length block) r × FlowingTurn end r
+      (length s ≡ 2972) × BoundedTurn (length block) r × FlowingTurn end r
       × ((st : State) → Shows (u .last) block at p t st → ShowsTurn (u .last) block at r s (furtherTurn (rulesOf u) (st .running) st (partOf block at end)))
 
   further-at : (c : ℕ) → p .running ≡ c → (st : State) → Shows (u .last) block at p t st → furtherTurn (rulesOf u) (st .running) st (partOf block at end) ≡ furtherTurn (rulesOf u) (byCode c known .holds) st (partOf block at end)
@@ -241,11 +277,23 @@ module _ (block : Bytes) (at end : ℕ) (u : Given) (p : Progress) (t : List ℕ
       λ st s. turn-shown (u .last) block at r t _ _ (d st s ∙ ap (blankOr 9 st) (strip-part block at end m h l c)) (q .1 (u .last) block t st s),
     )
 
-    pub further-single : (p .running ≡ 2) ⊎ ((p .running ≡ 5) ⊎ (p .running ≡ 12)) → BlankPromise r 9 (partOf block at (at + m)) → FurtherPromise r t
-    unfolding byCode known label furtherTurn
+    pub further-single : (p .running ≡ 2) ⊎ ((p .running ≡ 5) ⊎ ((p .running ≡ 12) ⊎ ((p .running ≡ 14) ⊎ (p .running ≡ 15)))) → BlankPromise r 9 (partOf block at (at + m)) → FurtherPromise r t
+    unfolding byCode known label furtherTurn xyzFurther
     further-single (inl e) q = further-blank (ap silent e) (λ st s. further-at 2 e st s) q
     further-single (inr (inl e)) q = further-blank (ap silent e) (λ st s. further-at 5 e st s) q
-    further-single (inr (inr e)) q = further-blank (ap silent e) (λ st s. further-at 12 e st s) q
+    further-single (inr (inr (inl e))) q = further-blank (ap silent e) (λ st s. further-at 12 e st s) q
+    further-single (inr (inr (inr (inl e)))) q = further-blank (ap silent e) (λ st s. further-at 14 e st s) q
+    further-single (inr (inr (inr (inr e)))) q = further-blank (ap silent e) (λ st s. further-at 15 e st s) q
+
+    pub further-rows : (s : List ℕ) → p .running ≡ 16 → GeometryPromise at p t r s (fields (partOf block at (at + m))) → FurtherPromise r s
+    unfolding byCode known label furtherTurn xyzFurther xyzValue
+    further-rows s e q = (
+      q .0,
+      kept-bounded (length block) p r (q .1) b,
+      flowing-silent end p r (kept-running p r (q .1)) (ap silent e),
+      λ st v. turn-shown (u .last) block at r s _ _
+          (further-at 16 e st v ∙ ap (λ (x : Bytes). xyzLine st (fields x)) (strip-part block at end m h l c) ∙ ap (λ (n : ℕ). xyzValue (recordOf n) st (fields (partOf block at (at + m)))) (sym e)) (q .2 (u .last) block st v),
+    )
 
     pub further-list : (s : List ℕ) → (6 ≤ p .running) × (p .running ≤ 11) → 1 ≤ u .last
         → ListPromise at (u .last) p t r s (fields (partOf block at (at + m)))

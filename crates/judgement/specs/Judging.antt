@@ -3,9 +3,11 @@ use mathlib.Core.Path.{_≡_}
 use mathlib.Core.List.{List, []}
 use Prim.Native.Nat.{ℕ}
 use lib.ListN.{length}
+use lib.IntN.{ℤ}
 use Rattle.lists.specs.Lists.{filled}
 use Rattle.format.specs.Bytes.{Bytes, cut}
 use Rattle.format.specs.Reading.{State, Accepted, Refused, readLines, start}
+use Rattle.coordinates.specs.KeptRows.{Stored}
 use Rattle.gather.specs.Progress.{Bounded, Holding}
 use Rattle.gather.specs.declared.progress.Progress.{Progress}
 use Rattle.judgement.specs.Lines.{rulesOf, Ruled}
@@ -13,28 +15,30 @@ use Rattle.judgement.specs.declared.rules.Rules.{Rules as Given}
 use Rattle.judgement.specs.declared.Judged.{Judged}
 use Rattle.judgement.specs.declared.Judged.the-variants as J
 
--- the block is accepted in a state, which stands in progress and scratch
-pub record Stands (u : Given) (block : Bytes) (p : Progress) (t : List ℕ) : Type 0 where
+-- the block is accepted in a state, which stands in progress and scratch, its rows of XYZ in the store
+pub record Stands (u : Given) (block : Bytes) (p : Progress) (t : List ℕ) (store : List ℤ) : Type 0 where
   pub state : State
   pub is : readLines (rulesOf u) start (cut block) ≡ Accepted state
   pub holding : Holding (u .last) block p t state
   pub bounded : Bounded (length block) p
+  pub stored : Stored store (state .geometry .rows)
 
-abbrev pub ShowsJudged : Given → Bytes → List ℕ → Judged → Type 0
-ShowsJudged u block t (J.Accepted p) = Stands u block p t
-ShowsJudged u block t (J.Refused n place) = readLines (rulesOf u) start (cut block) ≡ Refused n place
+abbrev pub ShowsJudged : Given → Bytes → List ℕ → List ℤ → Judged → Type 0
+ShowsJudged u block t store (J.Accepted p) = Stands u block p t store
+ShowsJudged u block t store (J.Refused n place) = readLines (rulesOf u) start (cut block) ≡ Refused n place
 
 -- what a reading lends: a scratch of the length, and as many elements known as may be
 pub record ReadingLent (u : Given) (t : List ℕ) : Type 0 where
-  pub long : length t ≡ 2960
+  pub long : length t ≡ 2972
   pub ruled : Ruled u
 
--- What a judgement promises, by the scratch before and after it. Of what no reading lends: number 0 at place 0, and the scratch as it was. Of a scratch of zeros: the
--- reading of the block's lines. Of a scratch of the length that holds other numbers: the length alone.
-pub record Judges (u : Given) (block : Bytes) (before after : List ℕ) (r : Judged) : Type 0 where
+-- What a judgement promises, by the scratch and the store before and after it. Of what no reading lends: number 0 at place 0, and both as they were. Of a scratch of
+-- zeros: the reading of the block's lines. Of a scratch of the length that holds other numbers: the lengths alone.
+pub record Judges (u : Given) (block : Bytes) (before after : List ℕ) (store₀ store : List ℤ) (r : Judged) : Type 0 where
   pub long : length after ≡ length before
-  pub unlent : (ReadingLent u before → ⊥) → (r ≡ J.Refused 0 0) × (after ≡ before)
-  pub shows : Ruled u → before ≡ filled 0 2960 [] → ShowsJudged u block after r
+  pub stores : length store ≡ length store₀
+  pub unlent : (ReadingLent u before → ⊥) → (r ≡ J.Refused 0 0) × (after ≡ before) × (store ≡ store₀)
+  pub shows : Ruled u → before ≡ filled 0 2972 [] → ShowsJudged u block after store r
 
 -- what is known before the first line
 abbrev pub unreadYet : Progress

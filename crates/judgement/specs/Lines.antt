@@ -3,11 +3,13 @@
 use Prim.Native.Nat.{ℕ, _≤_}
 use mathlib.Core.Path.{_≡_}
 use mathlib.Core.Bool.{Bool, true, false}
+use mathlib.Core.List.{[], _∷_}
 use lib.Dec.{eqb, ltb}
 use Rattle.lists.specs.Lists.{all}
 use Rattle.format.specs.Bytes.{Bytes}
 use Rattle.format.specs.Labels.{Label, misplaced}
-use Rattle.format.specs.Reading.{Rules, State, Turn, if_stop_else_, over, opened, valueTurn}
+use Rattle.format.specs.Coordinates.{exceeds}
+use Rattle.format.specs.Reading.{Rules, State, Turn, Go, if_stop_else_, over, opened, partly, valueTurn}
 use Rattle.gather.specs.Progress.{altered}
 use Rattle.gather.specs.declared.progress.Part.{Part}
 use Rattle.gather.specs.declared.progress.Progress.{Progress}
@@ -46,6 +48,10 @@ textPut c x p =
 -- a label line's turn, its value from `from` on
 abbrev pub labelTurn : Rules → State → (from : ℕ) → Label → Bytes → Turn
 labelTurn u st from x v = if misplaced (st .seen) x stop 6 else if over (st .running) stop 17 else valueTurn u (x .holds) (opened st x) from v
+
+-- the last tests of END: 41 "one or two of the three labels present without the rest", 42 "a value above MAX_XYZ"
+abbrev pub geometryEnd : State → Turn
+geometryEnd st = if partly (st .seen) (14 ∷ 15 ∷ 16 ∷ []) stop 41 else if exceeds (st .geometry) stop 42 else Go st
 
 -- each label seen has an interval that begins above 0, as every known one has
 abbrev pub begun : State → Bool

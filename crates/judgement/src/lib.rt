@@ -3,6 +3,7 @@ mod line; // line.rt: one line of a block
 pub mod rules; // rules.rt: what a reading goes by
 mod seen; // seen.rt: the labels seen so far and their order
 mod values; // values.rt: the values that stand on their label line
+mod xyz; // xyz.rt: the records of the block's geometry
 
 ghost use mathlib.Core.Path.{_≡_};
 ghost use mathlib.Core.List.{[]};
@@ -12,6 +13,7 @@ ghost use Rattle.judgement.specs.Lines.{Ruled};
 ghost use Rattle.judgement.specs.Judging.{ShowsJudged, Judges, unreadYet};
 use crate::line::line_step;
 use crate::rules::Rules;
+use crate::xyz::xyz_rows;
 use gather::progress::Part;
 use gather::progress::Progress;
 use gather::progress::Turn;
@@ -49,9 +51,9 @@ fn unread() -> Progress
 }
 
 // The lines in turn. "The earliest line that breaks a rule decides"; 3 "a byte not allowed"; 4 "or the block is empty"; 16 "no END line", its place the block's length.
-fn judge_lines(block: &[u8], u: Rules, scratch: &mut [u32]) -> Judged
-    requires { ⌜ (length (now scratch) ≡ 2960) × Ruled u ⌝ }
-    ensures { λ r. ⌜ (length (now (scratch .exit)) ≡ 2960) × (now (scratch .entry) ≡ filled 0 2960 [] → ShowsJudged u (now (block .entry)) (now (scratch .exit)) r) ⌝ }
+fn judge_lines(block: &[u8], u: Rules, scratch: &mut [u32], store: &mut [i32]) -> Judged
+    requires { ⌜ (length (now scratch) ≡ 2972) × Ruled u ⌝ }
+    ensures { λ r. ⌜ (length (now (scratch .exit)) ≡ 2972) × (length (now (store .exit)) ≡ length (now (store .entry))) × (now (scratch .entry) ≡ filled 0 2972 [] → ShowsJudged u (now (block .entry)) (now (scratch .exit)) (now (store .exit)) r) ⌝ }
 {
     let mut p = unread();
     let mut at = 0;
@@ -61,6 +63,12 @@ fn judge_lines(block: &[u8], u: Rules, scratch: &mut [u32]) -> Judged
         };
         match line_step(block, at, end, u, p, scratch) {
             Turn::Go(next) => {
+                // XYZ runs: its rows are kept in the store
+                if next.running == 16 {
+                    at = xyz_rows(block, end, next.top, next.atoms, scratch, store);
+                    p = next;
+                    continue;
+                }
                 // most lines are of neither list: what is known behind them is not passed on once more
                 if next.running != 6 {
                     if next.running != 7 {
@@ -88,10 +96,11 @@ fn judge_lines(block: &[u8], u: Rules, scratch: &mut [u32]) -> Judged
     Judged::Refused(16, at)
 }
 
-// Judges a block; the scratch lent is all zeros. What no reading lends, a scratch of another length, no known element or more than there are, is answered number 0,
-// which no block's refusal has, at place 0, and the scratch stays as it was. That it is all zeros is not looked at: of one that is not, only the length is promised.
-pub fn judge(block: &[u8], u: Rules, scratch: &mut [u32]) -> Judged
-    ensures { λ r. ⌜ Judges u (now (block .entry)) (now (scratch .entry)) (now (scratch .exit)) r ⌝ }
+// Judges a block; the scratch lent is all zeros. The store keeps the rows of XYZ, four numbers a row, as far as it has room. What no reading lends, a scratch of another
+// length, no known element or more than there are, is answered number 0, which no block's refusal has, at place 0, and scratch and store stay as they were. That it is
+// all zeros is not looked at: of one that is not, only the lengths are promised.
+pub fn judge(block: &[u8], u: Rules, scratch: &mut [u32], store: &mut [i32]) -> Judged
+    ensures { λ r. ⌜ Judges u (now (block .entry)) (now (scratch .entry)) (now (scratch .exit)) (now (store .entry)) (now (store .exit)) r ⌝ }
 {
     if scratch.len() != Scratch::SIZE {
         return Judged::Refused(0, 0);
@@ -102,5 +111,5 @@ pub fn judge(block: &[u8], u: Rules, scratch: &mut [u32]) -> Judged
     if Rules::ELEMENTS < u.last {
         return Judged::Refused(0, 0);
     }
-    judge_lines(block, u, scratch)
+    judge_lines(block, u, scratch, store)
 }

@@ -24,6 +24,8 @@ use crate::seen::out_of_order;
 use crate::values::BlockId;
 use crate::values::block_id;
 use crate::values::is_version;
+use crate::xyz::geometry_end;
+use crate::xyz::geometry_turn;
 use gather::list_turn;
 use gather::progress::Part;
 use gather::progress::Progress;
@@ -36,7 +38,8 @@ use molform::formula_verdict;
 use sorted::scratch::Scratch;
 use totals::agrees;
 
-// The END line, its value from `from` to `to` without its comment: 8 a record missing, 9 a value, 15 formula and atoms differ.
+// The END line, its value from `from` to `to` without its comment: 8 a record missing, 9 a value, 15 formula and atoms differ; then those of the
+// geometry.
 fn end_turn(
     block: &[u8],
     at: usize,
@@ -46,11 +49,11 @@ fn end_turn(
     p: Progress,
     scratch: &[u32],
 ) -> Turn
-    requires { ⌜ (length (now scratch) ≡ 2960) × Bounded (length (now block)) p × (from ≤ to) × (to ≤ length (now block)) × Ruled u ⌝ }
+    requires { ⌜ (length (now scratch) ≡ 2972) × Bounded (length (now block)) p × (from ≤ to) × (to ≤ length (now block)) × Ruled u ⌝ }
     ensures { λ r. ⌜ KeptTurn p r × ((st : State) → Shows (u .last) (now (block .entry)) at p (now (scratch .entry)) st →
         ShowsTurn (u .last) (now (block .entry)) at r (now (scratch .entry)) (endTurn (rulesOf u) st (fields (partOf (now (block .entry)) from to)))) ⌝ }
 {
-    if lacking(&scratch[Scratch::FIRST_LABEL..Scratch::SIZE]) {
+    if lacking(&scratch[Scratch::FIRST_LABEL..Scratch::FIRST_GEOMETRY]) {
         return Turn::Stop(8, at);
     }
     if p.atoms == 0 {
@@ -60,7 +63,7 @@ fn end_turn(
         return Turn::Stop(9, at);
     }
     if !u.totals {
-        return Turn::Go(p);
+        return geometry_end(at, p, scratch);
     }
     let formula = p.formula;
     let formula_from = formula.from;
@@ -73,7 +76,7 @@ fn end_turn(
     ) {
         return Turn::Stop(15, at);
     }
-    Turn::Go(p)
+    geometry_end(at, p, scratch)
 }
 
 // The formula's value from `from` to `to` without its comment, or its refusal.
@@ -146,8 +149,8 @@ fn value_turn(
     p: Progress,
     scratch: &mut [u32],
 ) -> Turn
-    requires { ⌜ (length (now scratch) ≡ 2960) × Bounded (length (now block)) p × (from ≤ end) × (end ≤ length (now block)) × Ruled u ⌝ }
-    ensures { λ r. ⌜ (length (now (scratch .exit)) ≡ 2960) × BoundedTurn (length (now (block .entry))) r × FlowingTurn end r × ((st : State) → Shows (u .last) (now (block .entry)) at p (now (scratch .entry)) st →
+    requires { ⌜ (length (now scratch) ≡ 2972) × Bounded (length (now block)) p × (from ≤ end) × (end ≤ length (now block)) × Ruled u ⌝ }
+    ensures { λ r. ⌜ (length (now (scratch .exit)) ≡ 2972) × BoundedTurn (length (now (block .entry))) r × FlowingTurn end r × ((st : State) → Shows (u .last) (now (block .entry)) at p (now (scratch .entry)) st →
         ShowsTurn (u .last) (now (block .entry)) at r (now (scratch .exit)) (valueTurn (rulesOf u) (byCode (p .running) known .holds) st from (partOf (now (block .entry)) from end))) ⌝ }
 {
     let running = p.running;
@@ -162,6 +165,7 @@ fn value_turn(
         5 => formula_turn(block, at, from, to, u.last, p),
         12 => id_turn(&block[from..to], at, p),
         13 => end_turn(block, at, from, to, u, p, scratch),
+        14 | 15 | 16 => geometry_turn(&block[from..to], at, running, p, scratch),
         _ => list_turn(&block[from..to], at, running, u.last, p, scratch),
     }
 }
@@ -175,8 +179,8 @@ fn further_turn(
     p: Progress,
     scratch: &mut [u32],
 ) -> Turn
-    requires { ⌜ (length (now scratch) ≡ 2960) × Bounded (length (now block)) p × Flowing at p × (at ≤ end) × (end ≤ length (now block)) × Ruled u ⌝ }
-    ensures { λ r. ⌜ (length (now (scratch .exit)) ≡ 2960) × BoundedTurn (length (now (block .entry))) r × FlowingTurn end r × ((st : State) → Shows (u .last) (now (block .entry)) at p (now (scratch .entry)) st →
+    requires { ⌜ (length (now scratch) ≡ 2972) × Bounded (length (now block)) p × Flowing at p × (at ≤ end) × (end ≤ length (now block)) × Ruled u ⌝ }
+    ensures { λ r. ⌜ (length (now (scratch .exit)) ≡ 2972) × BoundedTurn (length (now (block .entry))) r × FlowingTurn end r × ((st : State) → Shows (u .last) (now (block .entry)) at p (now (scratch .entry)) st →
         ShowsTurn (u .last) (now (block .entry)) at r (now (scratch .exit)) (furtherTurn (rulesOf u) (st .running) st (partOf (now (block .entry)) at end))) ⌝ }
 {
     let running = p.running;
@@ -199,7 +203,8 @@ fn further_turn(
     }
     let to = at + uncommented(&block[at..end]);
     match running {
-        2 | 5 | 12 => blank_or(&block[at..to], at, 9, p),
+        2 | 5 | 12 | 14 | 15 => blank_or(&block[at..to], at, 9, p),
+        16 => geometry_turn(&block[at..to], at, running, p, scratch),
         _ => list_turn(&block[at..to], at, running, u.last, p, scratch),
     }
 }
@@ -226,19 +231,23 @@ fn label_turn(
     p: Progress,
     scratch: &mut [u32],
 ) -> Turn
-    requires { ⌜ (length (now scratch) ≡ 2960) × Bounded (length (now block)) p × (from ≤ end) × (end ≤ length (now block)) × (code < 14) × Ruled u ⌝ }
-    ensures { λ r. ⌜ (length (now (scratch .exit)) ≡ 2960) × BoundedTurn (length (now (block .entry))) r × FlowingTurn end r × ((st : State) → Shows (u .last) (now (block .entry)) at p (now (scratch .entry)) st →
+    requires { ⌜ (length (now scratch) ≡ 2972) × Bounded (length (now block)) p × (from ≤ end) × (end ≤ length (now block)) × (code < 17) × Ruled u ⌝ }
+    ensures { λ r. ⌜ (length (now (scratch .exit)) ≡ 2972) × BoundedTurn (length (now (block .entry))) r × FlowingTurn end r × ((st : State) → Shows (u .last) (now (block .entry)) at p (now (scratch .entry)) st →
         ShowsTurn (u .last) (now (block .entry)) at r (now (scratch .exit)) (labelTurn (rulesOf u) st from (byCode code known) (partOf (now (block .entry)) from end))) ⌝ }
 {
     let index = code as usize;
-    if out_of_order(&scratch[Scratch::FIRST_LABEL..Scratch::SIZE], p.top, index) {
+    if out_of_order(
+        &scratch[Scratch::FIRST_LABEL..Scratch::FIRST_GEOMETRY],
+        p.top,
+        index,
+    ) {
         return Turn::Stop(6, at);
     }
     if p.running == 13 {
         return Turn::Stop(17, at);
     }
     let top = note(
-        &mut scratch[Scratch::FIRST_LABEL..Scratch::SIZE],
+        &mut scratch[Scratch::FIRST_LABEL..Scratch::FIRST_GEOMETRY],
         p.top,
         index,
     );
@@ -267,8 +276,8 @@ pub fn line_step(
     p: Progress,
     scratch: &mut [u32],
 ) -> Turn
-    requires { ⌜ (length (now scratch) ≡ 2960) × Bounded (length (now block)) p × Flowing at p × (at ≤ end) × (end ≤ length (now block)) × (all allowed (partOf (now block) at end) ≡ true) × Ruled u ⌝ }
-    ensures { λ r. ⌜ (length (now (scratch .exit)) ≡ 2960) × BoundedTurn (length (now (block .entry))) r × FlowingTurn end r × ((st : State) → Shows (u .last) (now (block .entry)) at p (now (scratch .entry)) st → begun st ≡ true →
+    requires { ⌜ (length (now scratch) ≡ 2972) × Bounded (length (now block)) p × Flowing at p × (at ≤ end) × (end ≤ length (now block)) × (all allowed (partOf (now block) at end) ≡ true) × Ruled u ⌝ }
+    ensures { λ r. ⌜ (length (now (scratch .exit)) ≡ 2972) × BoundedTurn (length (now (block .entry))) r × FlowingTurn end r × ((st : State) → Shows (u .last) (now (block .entry)) at p (now (scratch .entry)) st → begun st ≡ true →
         ShowsTurn (u .last) (now (block .entry)) at r (now (scratch .exit)) (lineStep (rulesOf u) st (partOf (now (block .entry)) at end))) ⌝ }
 {
     let line = &block[at..end];

@@ -227,14 +227,14 @@ look-key n (x ∷ xs) (k ∷ ks) w p h = go (eqb (nameKey 0 w) k) refl (look-key
 
 known-keyed : Keyed 1 known keys
 unfolding bytes within known label keys nameKey nameStep grown
-known-keyed = (refl, refl, omega arith, (refl, refl, omega arith, (refl, refl, omega arith, (refl, refl, omega arith, (refl, refl, omega arith, (refl, refl, omega arith, (refl, refl, omega arith, (refl, refl, omega arith, (refl, refl, omega arith, (refl, refl, omega arith, (refl, refl, omega arith, (refl, refl, omega arith, (refl, refl, omega arith, tt)))))))))))))
+known-keyed = (refl, refl, omega arith, (refl, refl, omega arith, (refl, refl, omega arith, (refl, refl, omega arith, (refl, refl, omega arith, (refl, refl, omega arith, (refl, refl, omega arith, (refl, refl, omega arith, (refl, refl, omega arith, (refl, refl, omega arith, (refl, refl, omega arith, (refl, refl, omega arith, (refl, refl, omega arith, (refl, refl, omega arith, (refl, refl, omega arith, (refl, refl, omega arith, tt))))))))))))))))
 
 -- the rule: a label is looked up by its key
 pub lookup-key : (s : Bytes) → lookup (normal s) known ≡ byCode (placeOfKey 1 (keyOf 0 s) keys) known
 lookup-key s = look-key 1 known keys (normal s) (omega arith) known-keyed ∙ ap (λ (k : ℕ). byCode (placeOfKey 1 k keys) known) (sym (key-name 0 s))
 
--- a key that is none of the thirteen
+-- a key that is none of the sixteen
 pub keyless : (key : ℕ)
-    → (key ≡ 21287301 → ⊥) → (key ≡ 10839572595 → ⊥) → (key ≡ 522493230 → ⊥) → (key ≡ 16496818 → ⊥) → (key ≡ 14474755661 → ⊥) → (key ≡ 56351925876 → ⊥) → (key ≡ 85299963508 → ⊥) → (key ≡ 109103333 → ⊥) → (key ≡ 19365399596 → ⊥) → (key ≡ 707261042578116786 → ⊥) → (key ≡ 690684612314418 → ⊥) → (key ≡ 2565975332 → ⊥) → (key ≡ 5572 → ⊥) → placeOfKey 1 key keys ≡ 0
+    → (key ≡ 21287301 → ⊥) → (key ≡ 10839572595 → ⊥) → (key ≡ 522493230 → ⊥) → (key ≡ 16496818 → ⊥) → (key ≡ 14474755661 → ⊥) → (key ≡ 56351925876 → ⊥) → (key ≡ 85299963508 → ⊥) → (key ≡ 109103333 → ⊥) → (key ≡ 19365399596 → ⊥) → (key ≡ 707261042578116786 → ⊥) → (key ≡ 690684612314418 → ⊥) → (key ≡ 2565975332 → ⊥) → (key ≡ 5572 → ⊥) → (key ≡ 438068026 → ⊥) → (key ≡ 27275392307698 → ⊥) → (key ≡ 25402 → ⊥) → placeOfKey 1 key keys ≡ 0
 unfolding placeOfKey keys
-keyless key a b c d e f g h i j k l m = rw (ne-eqb key 21287301 a, ne-eqb key 10839572595 b, ne-eqb key 522493230 c, ne-eqb key 16496818 d, ne-eqb key 14474755661 e, ne-eqb key 56351925876 f, ne-eqb key 85299963508 g, ne-eqb key 109103333 h, ne-eqb key 19365399596 i, ne-eqb key 707261042578116786 j, ne-eqb key 690684612314418 k, ne-eqb key 2565975332 l, ne-eqb key 5572 m, placeOfKey)
+keyless key a b c d e f g h i j k l m n o p = rw (ne-eqb key 21287301 a, ne-eqb key 10839572595 b, ne-eqb key 522493230 c, ne-eqb key 16496818 d, ne-eqb key 14474755661 e, ne-eqb key 56351925876 f, ne-eqb key 85299963508 g, ne-eqb key 109103333 h, ne-eqb key 19365399596 i, ne-eqb key 707261042578116786 j, ne-eqb key 690684612314418 k, ne-eqb key 2565975332 l, ne-eqb key 5572 m, ne-eqb key 438068026 n, ne-eqb key 27275392307698 o, ne-eqb key 25402 p, placeOfKey)

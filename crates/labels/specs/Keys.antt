@@ -43,6 +43,9 @@ keys =
     ∷ 690684612314418
     ∷ 2565975332
     ∷ 5572
+    ∷ 438068026
+    ∷ 27275392307698
+    ∷ 25402
     ∷ []
 
 -- the place of a key among some, counted from n; 0 where it is not there

@@ -63,7 +63,7 @@ fn next_key(key: u64, b: u8) -> u64
 
 // The code of the known label that has this key, 0 where none has it.
 fn code_of(key: u64) -> u8
-    ensures { λ r. ⌜ (r ≡ placeOfKey 1 key keys) × (r < 14) ⌝ }
+    ensures { λ r. ⌜ (r ≡ placeOfKey 1 key keys) × (r < 17) ⌝ }
 {
     match key {
         21287301 => 1,
@@ -79,6 +79,9 @@ fn code_of(key: u64) -> u8
         690684612314418 => 11,
         2565975332 => 12,
         5572 => 13,
+        438068026 => 14,
+        27275392307698 => 15,
+        25402 => 16,
         _ => 0,
     }
 }

@@ -3,7 +3,12 @@
 use Prim.Native.Nat.{ℕ, zero, suc, _-_}
 use mathlib.Core.Bool.{Bool, true, false, _&&_, _||_}
 use mathlib.Core.List.{List, [], _∷_, _++_}
-use lib.ListN.{length, take, drop, replicate}
+use lib.ListN.{length, drop, replicate}
+
+-- n numbers from one on: a, a + 1, a + 2 ..
+unfoldable pub countUp : (a n : ℕ) → List ℕ
+countUp a zero = []
+countUp a (suc n) = a ∷ countUp (suc a) n
 
 module _ {A : Type 0} where
   abbrev pub isNil : List A → Bool

@@ -202,13 +202,13 @@ module _ (k : ℕ) (b : k ≤ 103) (block : Bytes) (size : ℕ) (p : Progress) (
       ∙ ap (λ x. map pos (counts s) ++ (flat spanCells (map spanOf x) ++ (derived s ++ rest))) (sym (h .texts))
 
 -- RENUMBERED: what a renumbering is lent has its length
-lent-long : (from : ℕ) (t : List ℕ) → length t ≡ 2960 → from + 321 ≤ 2960 → length (take 321 (drop from t)) ≡ 321
+lent-long : (from : ℕ) (t : List ℕ) → length t ≡ 2972 → from + 321 ≤ 2972 → length (take 321 (drop from t)) ≡ 321
 lent-long from t h k = length-take-le 321 (drop from t) (simp length-drop (omega arith))
 
 blank-long : (n : ℕ) (t : List ℕ) → t ≡ filled 0 n [] → length t ≡ n
 blank-long n t e = ap length (e ∙ filled-nil 0 n) ∙ length-replicate {A = ℕ} n 0
 
-pub publishes : (table table′ : List ℤ) (block : Bytes) (size : ℕ) (p : Progress) (t co₀ cs₀ ro₀ rs₀ co cs ro rs : List ℕ) → length t ≡ 2960 → Bounded size p → co₀ ≡ filled 0 65 [] → cs₀ ≡ filled 0 64 []
+pub publishes : (table table′ : List ℤ) (block : Bytes) (size : ℕ) (p : Progress) (t co₀ cs₀ ro₀ rs₀ co cs ro rs : List ℕ) → length t ≡ 2972 → Bounded size p → co₀ ≡ filled 0 65 [] → cs₀ ≡ filled 0 64 []
     → ro₀ ≡ filled 0 65 [] → rs₀ ≡ filled 0 64 [] → Renumbering (take 321 (drop 768 t)) (p .atoms) (p .charges) co₀ cs₀ co cs
     → Renumbering (take 321 (drop 1089 t)) (p .atoms) (p .radicals) ro₀ rs₀ ro rs → table′ ≡ tableOut block p t co cs ro rs ++ drop 3856 table → (k : ℕ) (st : State) → Holding k block p t st
     → k ≤ 103 → table′ ≡ encode (finished (st .body)) (map spanOf (st .texts)) ++ drop 3856 table

@@ -31,7 +31,7 @@ pub byte-at : (s : Bytes) (i j : ℕ) → i < length s → j ≡ i + 1 → drop 
 byte-at s i j h e = drop-cons s i 0 h ∙ ap (λ (n : ℕ). getD s i 0 ∷ drop n s) (sym (e ∙ add-one i))
 
 -- NUMBERS
-digits-word : (w : Bytes) → 0 < length w → all digit w ≡ true → Word w
+pub digits-word : (w : Bytes) → 0 < length w → all digit w ≡ true → Word w
 digits-word w h d = record { some = h; seen = all-imply digit (within 37 126) digit-printed w d }
 
 digits-say : (w : Bytes) → 0 < length w → length w ≤ 6 → all digit w ≡ true → number w ≡ some (value 0 w)

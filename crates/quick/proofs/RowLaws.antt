@@ -1,4 +1,4 @@
--- A quick row put together from its pieces: document 01, "Rows", ATOMLIST and BONDLIST. Assumes nothing.
+-- A quick row put together from its pieces: document 01, "Rows", ATOMLIST and BONDLIST, and document 02, L2, XYZ. Assumes nothing.
 use Prim.Native.Nat.{ℕ, _+_, _≤_, _<_}
 use mathlib.Core.Path.{_≡_, refl, ap, _∙_}
 use mathlib.Core.Bool.{true, false}
@@ -12,18 +12,23 @@ use Rattle.lists.proofs.ListLaws.{all-nil, all-both}
 use Rattle.format.specs.Bytes.{Bytes, within}
 use Rattle.format.specs.Labels.{Bonds}
 use Rattle.format.specs.Rows.{upper, lower, symbol, row, firstNumbers, marked, rowShape, atomShape}
+use Rattle.format.specs.Coordinates.{XyzRow, xyzShape}
 use Rattle.format.proofs.ByteLaws.{upper-bounds}
 use Rattle.format.proofs.SymbolLaws.{symbol-plain, lettered-one, lettered-two, upper-printed, lower-printed}
 use Rattle.symbols.specs.declared.Mark.{Mark}
 use Rattle.symbols.specs.ShownSymbols.{symOfMark}
 use Rattle.rows.specs.Answers.{atomRowOf}
-use Rattle.quick.specs.Pieces.{Word, Words, later, feed, NumberIs, EndIs, KindIs, TailIs}
-use Rattle.quick.specs.Quick.{BondIs, ShowsBond, AtomIs, ShowsAtom}
+use Rattle.rows.proofs.XyzLaws.{rows-small}
+use Rattle.quick.specs.Pieces.{Word, Words, later, feed, NumberIs, EndIs, KindIs, TailIs, SignedIs, SpacedIs}
+use Rattle.quick.specs.Quick.{BondIs, ShowsBond, AtomIs, ShowsAtom, XyzAt, ShowsXyz}
 use Rattle.quick.specs.declared.atom.QuickAtom.{QuickAtom}
 use Rattle.quick.specs.declared.atom.QuickAtom.the-variants as A
 use Rattle.quick.specs.declared.bond.QuickBond.{QuickBond}
 use Rattle.quick.specs.declared.bond.QuickBond.the-variants as B
+use Rattle.quick.specs.declared.xyz.QuickXyz.{QuickXyz}
+use Rattle.quick.specs.declared.xyz.QuickXyz.the-variants as X
 use Rattle.quick.proofs.PieceLaws.{byte-at}
+use Rattle.quick.proofs.SignedLaws.{spaced-near}
 use Rattle.quick.proofs.LineLaws.{one-line, line-reads}
 
 letter-word : (b : ℕ) → within 37 126 b ≡ true → Word (b ∷ [])
@@ -113,9 +118,56 @@ module _ (s : Bytes) (at number from hydrogens next : ℕ) (n : NumberIs s at nu
       (record { some = omega arith; seen = all-both (within 37 126) one (two ∷ []) (upper-printed one u) (letter-word two (lower-printed two l) .seen) })
       (symbol-plain one (two ∷ []) (ne-eqb one 94 (no-caret one u)) ∙ lettered-two false 0 one two u l) refl refl (omega arith) t (omega (arith, n .high, t .high))
 
+-- AN ATOM AND ITS THREE NUMBERS
+module _ (s : Bytes) (at atom first x second y third z last next : ℕ) (n : NumberIs s at atom first) (u : SpacedIs s first x second) (v : SpacedIs s second y third)
+    (w : SignedIs s third z last) (e : EndIs s last next) (room : at + 29 ≤ length s) where
+  abbrev numbers : List Bytes
+  numbers = u .number .word ∷ v .number .word ∷ w .word ∷ []
+
+  numbers-are : drop at s ≡ n .word ++ later numbers (feed (e .returned) ++ drop next s)
+  unfolding later
+  numbers-are =
+      n .is ∙ ap (λ (r : Bytes). n .word ++ (32 ∷ r)) (u .number .is
+      ∙ ap (λ (r : Bytes). u .number .word ++ r) (u .is ∙ ap (λ (r : Bytes). 32 ∷ r) (v .number .is
+      ∙ ap (λ (r : Bytes). v .number .word ++ r) (v .is ∙ ap (λ (r : Bytes). 32 ∷ r) (w .is ∙ ap (λ (r : Bytes). w .word ++ r) (e .is))))))
+
+  numbers-fine : Words numbers
+  numbers-fine = (u .number .fine, (v .number .fine, (w .fine, tt)))
+
+  numbers-low : at < next
+  numbers-low = omega (arith, n .low, spaced-near s first x second u .0, spaced-near s second y third v .0, w .low, e .low)
+
+  numbers-high : next ≤ length s
+  numbers-high = omega (arith, n .high, spaced-near s first x second u .1, spaced-near s second y third v .1, w .high, e .high)
+
+  abbrev rowOf : XyzRow
+  rowOf = record { atom = atom; x = u .number .value; y = v .number .value; z = w .value }
+
+  numbers-shape : xyzShape (n .word ∷ numbers) ≡ some rowOf
+  unfolding xyzShape
+  numbers-shape = rw (n .says, u .number .says, v .number .says, w .says)
+
+  pub xyz-row : XyzAt s at atom x y z next
+  xyz-row = record {
+    line = one-line s at next (n .word) numbers (e .returned) numbers-low numbers-high (n .fine) numbers-fine numbers-are;
+    shape = record {
+      row = rowOf;
+      is = ap xyzShape (line-reads s at next (n .word) numbers (e .returned) numbers-low numbers-high (n .fine) numbers-fine numbers-are) ∙ numbers-shape;
+      atom = refl;
+      first = u .number .lifts;
+      second = v .number .lifts;
+      third = w .lifts;
+      small = rows-small atom (u .number .value) (v .number .value) (w .value) (u .number .small) (v .number .small) (w .small);
+    };
+    one = n .small;
+  }
+
 -- WHAT AN ANSWER'S VALUES ARE
 pub bond-told : (block : Bytes) (at : ℕ) (r : QuickBond) → ShowsBond block at r → (first second kind next : ℕ) → r ≡ B.Values first second kind next → BondIs block at first second kind next
 bond-told block at r h first second kind next e = rw e at h
 
 pub atom-told : (block : Bytes) (at : ℕ) (r : QuickAtom) → ShowsAtom block at r → (number : ℕ) (mark : Mark) (hydrogens next : ℕ) → r ≡ A.Values number mark hydrogens next → AtomIs block at number mark hydrogens next
 atom-told block at r h number mark hydrogens next e = rw e at h
+
+pub xyz-told : (block : Bytes) (at : ℕ) (r : QuickXyz) → ShowsXyz block at r → (atom x y z next : ℕ) → r ≡ X.Values atom x y z next → XyzAt block at atom x y z next
+xyz-told block at r h atom x y z next e = rw e at h

@@ -1,12 +1,12 @@
--- A quick row's line in the reading: it is judged as a row of the list that runs, and by nothing else. Document 01, "Refusal numbers". Assumes nothing.
+-- A quick row's line in the reading: it is judged as a row of the list that runs, or of XYZ, and by nothing else. Document 01, "Refusal numbers". Assumes nothing.
 use Prim.Native.Nat.{ℕ}
 use mathlib.Core.Path.{_≡_, ap, _∙_}
 use mathlib.Core.Bool.{false, not}
 use Rattle.lists.specs.Lists.{isNil}
 use Rattle.lists.proofs.Bools.{and-left-false}
 use Rattle.format.specs.Bytes.{Bytes, fields}
-use Rattle.format.specs.Labels.{ListOf, Holds, Atoms, Rows, titleLine}
-use Rattle.format.specs.Reading.{Rules, State, atomLine, rowLine, furtherTurn, lineStep}
+use Rattle.format.specs.Labels.{ListOf, XyzRows, Holds, Atoms, Rows, Xyz, titleLine}
+use Rattle.format.specs.Reading.{Rules, State, atomLine, rowLine, xyzLine, xyzFurther, furtherTurn, lineStep}
 use Rattle.format.proofs.ReadingLaws.{step-on, line-plain}
 use Rattle.quick.specs.Quick.{lineAt, OneLine}
 
@@ -24,3 +24,7 @@ module _ (u : Rules) (st : State) (block : Bytes) (at next : ℕ) (h : OneLine b
   pub atom-step : st .running ≡ Atoms → lineStep u st line ≡ atomLine (u .elements) st (fields line)
   unfolding furtherTurn
   atom-step e = further ∙ ap (λ (r : Holds). furtherTurn u r st line) e ∙ ap (λ (s : Bytes). atomLine (u .elements) st (fields s)) (h .kept)
+
+  pub xyz-step : st .running ≡ Xyz XyzRows → lineStep u st line ≡ xyzLine st (fields line)
+  unfolding furtherTurn xyzFurther
+  xyz-step e = further ∙ ap (λ (r : Holds). furtherTurn u r st line) e ∙ ap (λ (s : Bytes). xyzLine st (fields s)) (h .kept)

@@ -1,20 +1,26 @@
--- What the pieces of a quick row are, each told of the bytes from a place of the block on: a number and the space behind it, a kind's letter, a line's end.
+-- What the pieces of a quick row are, each told of the bytes from a place of the block on: a number and the space behind it, a signed one, a kind's letter, a line's end.
 -- Document 01, "Lines and labels" and "Rows". Assumes nothing.
-use Prim.Native.Nat.{ℕ, _+_, _≤_, _<_}
+use Prim.Native.Nat.{ℕ, _+_, _-_, _≤_, _<_}
 use mathlib.Core.Path.{_≡_}
 use mathlib.Core.Bool.{Bool, true, false}
 use mathlib.Core.Option.{some}
 use mathlib.Core.List.{List, [], _∷_, _++_}
-use lib.ListN.{length, drop}
+use lib.ListN.{length, take, drop, getD}
+use lib.IntN.{ℤ}
+use lib.Dec.{eqb}
 use Rattle.lists.specs.Lists.{all}
 use Rattle.format.specs.Bytes.{Bytes, bytes, within}
-use Rattle.format.specs.Rows.{number, optional, placeIn}
+use Rattle.format.specs.Rows.{digit, numberFrom, number, signed, optional, placeIn}
+use Rattle.rows.specs.Raised.{raised, sixDigits}
 use Rattle.quick.specs.declared.parts.NumberAt.{NumberAt}
 use Rattle.quick.specs.declared.parts.NumberAt.the-variants as N
 use Rattle.quick.specs.declared.parts.EndAt.{EndAt}
 use Rattle.quick.specs.declared.parts.EndAt.the-variants as E
 use Rattle.quick.specs.declared.parts.Tail.{Tail}
 use Rattle.quick.specs.declared.parts.Tail.the-variants as T
+use Rattle.quick.specs.declared.parts.Digits.{Digits}
+use Rattle.quick.specs.declared.parts.SignedAt.{SignedAt}
+use Rattle.quick.specs.declared.parts.SignedAt.the-variants as S
 
 -- a word of a quick row: not empty, and no byte of it is a gap, `#` or `$`
 pub record Word (w : Bytes) : Type 0 where
@@ -83,3 +89,49 @@ pub record TailIs (s : Bytes) (at n next : ℕ) : Type 0 where
 abbrev pub ShowsTail : Bytes → (at : ℕ) → Tail → Type 0
 ShowsTail s at (T.Ends n next) = TailIs s at n next
 ShowsTail s at T.Not = Unit {0}
+
+-- the digits from `at` on, none or at most six, and the number that they say
+abbrev pub wordAt : Bytes → (at to : ℕ) → Bytes
+wordAt s at to = take (to - at) (drop at s)
+
+pub record DigitsAre (s : Bytes) (at : ℕ) (r : Digits) : Type 0 where
+  pub low : at ≤ r .to
+  pub high : r .to ≤ at + 6
+  pub digits : all digit (wordAt s at (r .to)) ≡ true
+  pub says : numberFrom 0 (wordAt s at (r .to)) ≡ some (r .value)
+  pub small : r .value < 1000000
+
+-- the place behind a minus, if there is one; a number of that sign, 1,000,000 above it
+unfoldable pub behindMinus : Bytes → (at : ℕ) → ℕ
+behindMinus s at = elim (eqb (getD s at 0) 45) [ true ↦ at + 1 | false ↦ at ]
+
+abbrev pub liftedBy : (negative : Bool) → ℕ → ℕ
+liftedBy true n = 1000000 - n
+liftedBy false n = 1000000 + n
+
+-- a signed number stands from `at` to `to`, and n is 1,000,000 above it
+pub record SignedIs (s : Bytes) (at n to : ℕ) : Type 0 where
+  pub word : Bytes
+  pub is : drop at s ≡ word ++ drop to s
+  pub fine : Word word
+  pub value : ℤ
+  pub says : signed word ≡ some value
+  pub lifts : raised value ≡ n
+  pub small : sixDigits value ≡ true
+  pub low : at < to
+  pub high : to ≤ at + 7
+
+abbrev pub ShowsSigned : Bytes → (at : ℕ) → SignedAt → Type 0
+ShowsSigned s at (S.Number n to) = SignedIs s at n to
+ShowsSigned s at S.Not = Unit {0}
+
+-- the same with a space behind it, and the rest starts at `to`
+pub record SpacedIs (s : Bytes) (at n to : ℕ) : Type 0 where
+  pub stop : ℕ
+  pub number : SignedIs s at n stop
+  pub is : drop stop s ≡ 32 ∷ drop to s
+  pub next : to ≡ stop + 1
+
+abbrev pub ShowsSpaced : Bytes → (at : ℕ) → SignedAt → Type 0
+ShowsSpaced s at (S.Number n to) = SpacedIs s at n to
+ShowsSpaced s at S.Not = Unit {0}

@@ -1,12 +1,10 @@
--- The reader's promises allow one answer and one table, and the check's one number, which says one refusal number and one place: document 01, "that two allowed
+-- The reader's promises allow one answer and one pair of tables, and the check's one number, which says one refusal number and one place: document 01, "that two allowed
 -- answers are equal is proved". Assumes nothing.
 use Prim.Native.Nat.{ℕ, zero, suc, _≤_}
 use mathlib.Core.Path.{_≡_, refl, sym, ap, _∙_}
-use mathlib.Core.List.{List}
 use native.Mathlib.Omega.{arith}
-use lib.IntN.{ℤ}
 use Rattle.format.specs.Bytes.{Bytes}
-use Rattle.format.specs.Table.{ReadResult}
+use Rattle.format.specs.Table.{Lent, ReadResult}
 use Rattle.format.specs.Walking.{packed, checkOf}
 use Rattle.reader.specs.Answers.{shownRead, CaseTold}
 use Rattle.reader.specs.declared.Answer.{Answer}
@@ -17,19 +15,19 @@ abbrev answerOf : (number place : ℕ) → Answer
 answerOf zero place = Accepted
 answerOf (suc n) place = Refused (suc n) place
 
-back : (r : Answer) (t : List ℤ) → CaseTold r → answerOf (shownRead r t .number) (shownRead r t .place) ≡ r
-back Accepted t h = refl
-back (Refused zero place) t h = absurd (h refl)
-back (Refused (suc n) place) t h = refl
+back : (r : Answer) (l : Lent) → CaseTold r → answerOf (shownRead r l .number) (shownRead r l .place) ≡ r
+back Accepted l h = refl
+back (Refused zero place) l h = absurd (h refl)
+back (Refused (suc n) place) l h = refl
 
-held : (r : Answer) (t : List ℤ) → shownRead r t .table ≡ t
-held Accepted t = refl
-held (Refused n place) t = refl
+held : (r : Answer) (l : Lent) → shownRead r l .after ≡ l
+held Accepted l = refl
+held (Refused n place) l = refl
 
-pub one-answer : (r q : Answer) (t u : List ℤ) → CaseTold r → CaseTold q → shownRead r t ≡ shownRead q u → (r ≡ q) × (t ≡ u)
-one-answer r q t u h k e = (
-  sym (back r t h) ∙ ap (λ (x : ReadResult). answerOf (x .number) (x .place)) e ∙ back q u k,
-  sym (held r t) ∙ ap (λ (x : ReadResult). x .table) e ∙ held q u,
+pub one-answer : (r q : Answer) (l m : Lent) → CaseTold r → CaseTold q → shownRead r l ≡ shownRead q m → (r ≡ q) × (l ≡ m)
+one-answer r q l m h k e = (
+  sym (back r l h) ∙ ap (λ (x : ReadResult). answerOf (x .number) (x .place)) e ∙ back q m k,
+  sym (held r l) ∙ ap (λ (x : ReadResult). x .after) e ∙ held q m,
 )
 
 -- CHECKING

@@ -2,3 +2,4 @@
 pub mod PartLaws
 pub mod ShapeLaws
 pub mod AnswerLaws
+pub mod XyzLaws

@@ -4,3 +4,4 @@ pub mod bond; // bond.rt: a row of BONDLIST
 pub mod centre; // centre.rt: a row of STEREOCENTER
 pub mod pair; // pair.rt: a row of STEREOPAIR
 mod parts; // parts.rt: what the rows share
+pub mod xyz; // xyz.rt: a row of XYZ

@@ -8,3 +8,4 @@ pub mod RegionRows
 pub mod JoinLaws
 pub mod KeyedLaws
 pub mod KeyedLines
+pub mod GeometryLaws

@@ -3,3 +3,4 @@ pub mod Steps
 pub mod Regions
 pub mod Shown
 pub mod Keyed
+pub mod GeometryRegion

@@ -6,7 +6,7 @@ pub struct Scratch;
 
 impl Scratch {
     // How many numbers a list's region has: three for each atom; for charges and for radicals a row's number for each atom, the rows' values and the row without atoms; two
-    // for each bond, centre and pair; one for each label.
+    // for each bond, centre and pair; one for each label; nine for the geometry.
     pub const KINDS: usize = 3 * Table::ATOMS;
 
     pub const SPREAD: usize = Table::ATOMS + Table::CHARGES + 1;
@@ -17,7 +17,9 @@ impl Scratch {
 
     pub const PAIRS: usize = 2 * Table::PAIRS;
 
-    pub const LABELS: usize = 14;
+    pub const LABELS: usize = 17;
+
+    pub const GEOMETRY: usize = 9;
 
     // Where each region starts; the atoms' at 0.
     pub const FIRST_CHARGE: usize = Self::KINDS;
@@ -32,8 +34,24 @@ impl Scratch {
 
     pub const FIRST_LABEL: usize = Self::FIRST_PAIR + Self::PAIRS;
 
+    pub const FIRST_GEOMETRY: usize = Self::FIRST_LABEL + Self::LABELS;
+
     // How many numbers the scratch has.
-    pub const SIZE: usize = Self::FIRST_LABEL + Self::LABELS;
+    pub const SIZE: usize = Self::FIRST_GEOMETRY + Self::GEOMETRY;
+
+    // In the region of the geometry: where MAX_XYZ, the factor's digits and decimals, the count of rows, the largest size among their numbers, and the latest row's atom and
+    // three numbers stand.
+    pub const GREATEST: usize = 0;
+
+    pub const DIGITS: usize = 1;
+
+    pub const DECIMALS: usize = 2;
+
+    pub const ROWS: usize = 3;
+
+    pub const LARGEST: usize = 4;
+
+    pub const LATEST: usize = 5;
 
     // In a region of charges or radicals: where the row without atoms stands.
     pub const WITHOUT_ATOMS: usize = Table::ATOMS + Table::CHARGES;

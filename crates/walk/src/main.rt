@@ -3,6 +3,7 @@
 ghost use Prim.Native.Nat.{_≤_, _<_};
 ghost use mathlib.Core.Path.{_≡_};
 ghost use lib.ListN.{length};
+use coordinates::table::Positions;
 use format::Table;
 use reader::Answer;
 use transfer::walks::Walked;
@@ -37,7 +38,8 @@ fn print_block(file: &[u8], start: usize, end: usize)
     print_behind(start as u64);
     print_behind(end as u64);
     let mut table = [0i32; Table::SIZE];
-    let answer = reader::read(&file[start..end], &mut table);
+    let mut positions = [0f64; Positions::SIZE];
+    let answer = reader::read(&file[start..end], &mut table, &mut positions);
     match answer {
         Answer::Accepted => {
             print_reading(0, 0, &table);

@@ -1,13 +1,18 @@
 //! Sound blocks: a random structure spelt in one of the many ways that document 01 accepts.
 
+use super::coordinates::coordinates;
 use super::random::Random;
 use super::spelling::Spelling;
 use super::structures::structure;
+use crate::independent::coordinates::CoordinateRow;
 use crate::independent::table::{Pair, Spread, Structure};
 
-/// A block that is accepted.
+/// A block that is accepted; some have coordinates.
 pub fn sound_block(random: &mut Random) -> Vec<u8> {
-    let content = structure(random);
+    let mut content = structure(random);
+    if random.chance(12) {
+        content.coordinates = coordinates(random, content.atoms.len() as i32);
+    }
     spelt(random, &content)
 }
 
@@ -47,6 +52,9 @@ enum Record {
     Radical,
     Stereocenter,
     Stereopair,
+    MaxXyz,
+    XyzFactor,
+    Xyz,
     BlockId,
 }
 
@@ -69,7 +77,13 @@ fn records(spelling: &mut Spelling, content: &Structure) -> Vec<Record> {
     if !content.pairs.is_empty() || spelling.random.chance(10) {
         shell.push(Record::Stereopair);
     }
-    spelling.random.shuffle(&mut shell);
+    if content.coordinates.most.is_some() {
+        shell.extend([Record::MaxXyz, Record::XyzFactor, Record::Xyz]);
+    }
+    // programs write the shell in the paper's order
+    if spelling.random.chance(70) {
+        spelling.random.shuffle(&mut shell);
+    }
     records.extend(shell);
     records
 }
@@ -111,6 +125,21 @@ fn spell_record(spelling: &mut Spelling, content: &Structure, record: Record) {
         Record::Stereopair => {
             let rows = pair_rows(spelling, &content.pairs);
             spelling.list("STEREOPAIR", rows);
+        }
+        Record::MaxXyz => {
+            spelling.label_among(&["MAX_XYZ", "MAX_XYZ", "max-xyz", "MAXXYZ", "Max XYZ"]);
+            let most = spelling.number(content.coordinates.most.unwrap_or_default());
+            spelling.value(&most);
+        }
+        Record::XyzFactor => {
+            spelling.label_among(&["XYZ_FACTOR", "XYZ_FACTOR", "XYZ FACTOR", "xyzfactor", "XYZ/Factor"]);
+            let factor = content.coordinates.factor.map(|factor| spelling.factor(factor));
+            spelling.value(&factor.unwrap_or_default());
+        }
+        Record::Xyz => {
+            let rows = coordinate_rows(spelling, &content.coordinates.rows);
+            let name = spelling.random.pick(&["XYZ", "XYZ", "XYZ", "xyz", "X_Y-Z"]);
+            spelling.list(name, rows);
         }
     }
 }
@@ -199,5 +228,16 @@ fn pair_rows(spelling: &mut Spelling, pairs: &[Pair]) -> Rows {
         rows.push(row);
     }
     spelling.random.shuffle(&mut rows);
+    rows
+}
+
+/// Rows in their order, with signs where they may stand.
+fn coordinate_rows(spelling: &mut Spelling, coordinates: &[CoordinateRow]) -> Rows {
+    let mut rows = Vec::new();
+    for row in coordinates {
+        let mut fields = vec![spelling.number(row.atom)];
+        fields.extend(row.values.map(|value| spelling.signed(value)));
+        rows.push(fields);
+    }
     rows
 }

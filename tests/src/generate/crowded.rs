@@ -11,6 +11,8 @@ pub struct Crowded {
     pub radicals: Vec<String>,
     pub centres: Vec<String>,
     pub pairs: Vec<String>,
+    /// Further records before END, as they stand.
+    pub further: String,
 }
 
 impl Crowded {
@@ -39,6 +41,7 @@ impl Crowded {
                 block.push_str(&format!("##{label}=\n{}\n", rows.join("\n")));
             }
         }
+        block.push_str(&self.further);
         block.push_str("##END=\n");
         block.into_bytes()
     }

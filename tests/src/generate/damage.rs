@@ -4,10 +4,10 @@
 use super::damage_rows::*;
 use super::random::Random;
 
-type Damage = fn(&mut Random, &[u8]) -> Vec<u8>;
+/// Kinds of damage with their shares.
+pub(super) type Shares<const KINDS: usize> = [(usize, fn(&mut Random, &[u8]) -> Vec<u8>); KINDS];
 
-/// Each kind of damage with its share.
-const DAMAGES: [(usize, Damage); 22] = [
+const DAMAGES: Shares<22> = [
     (5, flipped_byte),
     (5, inserted_byte),
     (5, deleted_byte),
@@ -34,9 +34,18 @@ const DAMAGES: [(usize, Damage); 22] = [
 
 /// The block with one kind of damage.
 pub fn damaged(random: &mut Random, block: &[u8]) -> Vec<u8> {
-    let all: usize = DAMAGES.iter().map(|(share, _)| share).sum();
+    chosen(random, &DAMAGES, block)
+}
+
+/// The block with one of some kinds of damage.
+pub(super) fn chosen<const KINDS: usize>(
+    random: &mut Random,
+    kinds: &Shares<KINDS>,
+    block: &[u8],
+) -> Vec<u8> {
+    let all: usize = kinds.iter().map(|(share, _)| share).sum();
     let mut chosen = random.below(all);
-    for (share, damage) in DAMAGES {
+    for &(share, damage) in kinds {
         if chosen < share {
             return damage(random, block);
         }

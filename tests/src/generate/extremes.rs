@@ -4,7 +4,7 @@
 use super::random::Random;
 use super::tables::{roomed, sound_table, TableCase};
 use super::typical::full_block;
-use crate::independent::read;
+use crate::independent::read_table;
 use crate::independent::table::NUMBERS;
 
 /// Numbers at the ends of what can be lent and of what the rules allow.
@@ -51,7 +51,7 @@ fn disturbed_counts(random: &mut Random) -> TableCase {
 fn full(random: &mut Random) -> TableCase {
     let block = full_block();
     let mut table = vec![0; NUMBERS];
-    assert_eq!(read(&block, &mut table).number, 0, "the full block is refused");
+    assert_eq!(read_table(&block, &mut table).number, 0, "the full block is refused");
     if random.chance(50) {
         table[random.below(NUMBERS)] = *random.pick(&NUMBERS_AT_ENDS);
     }

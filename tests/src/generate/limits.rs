@@ -2,6 +2,7 @@
 //! the open points. No answers stand here; whoever runs the cases compares two readers.
 
 use super::crowded::{each_atom, two_ends, Crowded};
+use super::limits_coordinates::coordinate_limits;
 use super::neighbours::{neighbours, whole_blocks};
 use super::neon::NEON;
 
@@ -16,6 +17,7 @@ pub fn limit_blocks() -> Vec<(String, Vec<u8>)> {
     cases.extend(number_limits());
     cases.extend(neighbours());
     cases.extend(whole_blocks());
+    cases.extend(coordinate_limits());
     cases
 }
 

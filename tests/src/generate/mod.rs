@@ -2,12 +2,15 @@
 
 pub mod blocks;
 pub mod cases;
+pub mod coordinates;
 pub mod crowded;
 pub mod damage;
+mod damage_coordinates;
 mod damage_rows;
 pub mod extremes;
 pub mod files;
 pub mod limits;
+pub mod limits_coordinates;
 pub mod neighbours;
 pub mod neon;
 pub mod random;
@@ -17,6 +20,7 @@ pub mod tables;
 pub mod typical;
 
 pub use blocks::sound_block;
+pub use coordinates::coordinate_block;
 pub use damage::damaged;
 pub use extremes::extreme_case;
 pub use files::file;
@@ -24,8 +28,12 @@ pub use limits::limit_blocks;
 pub use random::Random;
 pub use tables::{table_case, TableCase};
 
-/// A block of any kind, sound or damaged, mostly small; every refusal from 3 to 17 comes often.
+/// A block of any kind, sound or damaged, mostly small; every refusal from 3 to 17, 41 and 42 come
+/// often. About a quarter has coordinates.
 pub fn block(random: &mut Random) -> Vec<u8> {
+    if random.chance(15) {
+        return coordinate_block(random);
+    }
     match random.below(100) {
         0..=29 => sound_block(random),
         30..=35 => {

@@ -2,6 +2,7 @@
 //! zeros, texts over several lines, skipped records, formulas in every allowed shape.
 
 use super::random::Random;
+use crate::independent::coordinates::Factor;
 use crate::independent::elements::SYMBOLS;
 use crate::independent::formula::listed;
 use crate::independent::table::Atom;
@@ -14,8 +15,20 @@ pub struct Spelling<'a> {
     noise: usize,
 }
 
-const SKIPPED: [&str; 10] =
-    ["DATE", "TIME", "STEREOMOLECULE", "MAX_RASTER", "XY_RASTER", "XYZ", "JCAMP-DX", "ENDE", "", "#END"];
+const SKIPPED: [&str; 12] = [
+    "DATE",
+    "TIME",
+    "STEREOMOLECULE",
+    "MAX_RASTER",
+    "XY_RASTER",
+    "XYZ_SOURCE",
+    "MAX_XY",
+    "XYZ_FACTORS",
+    "JCAMP-DX",
+    "ENDE",
+    "",
+    "#END",
+];
 const WORDS: [&str; 14] =
     ["a", "acid", "of", "3.7", "$$", "$", "=", "##", "#", "x=y", "1 Ne", "END", "~", "bench-4"];
 
@@ -52,6 +65,12 @@ impl<'a> Spelling<'a> {
             }
         }
         self.bytes.push(b'=');
+    }
+
+    /// One of some spellings of a label, with its noise.
+    pub fn label_among(&mut self, names: &[&str]) {
+        let name = self.random.pick(names);
+        self.label(name);
     }
 
     /// No or some blanks.
@@ -92,6 +111,31 @@ impl<'a> Spelling<'a> {
     pub fn number(&mut self, number: i32) -> String {
         let width = if self.noisy() { self.random.below(7) } else { 0 };
         format!("{number:0width$}")
+    }
+
+    /// A number with a sign now and then where none is needed; 0 with either one.
+    pub fn signed(&mut self, number: i32) -> String {
+        let digits = self.number(number.abs());
+        let sign = match number {
+            ..0 => "-",
+            0 if self.random.chance(20) => "-",
+            _ if self.random.chance(15) => "+",
+            _ => "",
+        };
+        format!("{sign}{digits}")
+    }
+
+    /// A factor with leading zeros now and then, nine digits at most; a point behind the last digit
+    /// may be left out.
+    pub fn factor(&mut self, factor: Factor) -> String {
+        let decimals = factor.decimals as usize;
+        let wider = if self.random.chance(40) { self.random.below(10) } else { 0 };
+        let width = decimals.max(wider);
+        let mut text = format!("{:0width$}", factor.digits);
+        if decimals > 0 || self.random.chance(30) {
+            text.insert(text.len() - decimals, '.');
+        }
+        text
     }
 
     /// A symbol, hydrogen 2 and 3 in both spellings.

@@ -5,7 +5,7 @@ use super::blocks::sound_block;
 use super::random::Random;
 use super::structures::structure;
 use crate::independent::table::{laid_out, Structure, LONGEST_BLOCK, NUMBERS};
-use crate::independent::{read, write};
+use crate::independent::{read_table, write};
 
 /// A table, the bytes its texts stand in, and the length of the buffer.
 #[derive(Clone, Debug, PartialEq)]
@@ -62,7 +62,7 @@ pub fn sound_table(random: &mut Random) -> (Vec<i32>, Vec<u8>) {
     if random.chance(40) {
         let block = sound_block(random);
         let mut table = vec![0; NUMBERS];
-        let answer = read(&block, &mut table);
+        let answer = read_table(&block, &mut table);
         assert_eq!(answer.number, 0, "a sound block is refused: {}", block.escape_ascii());
         return (table, block);
     }

@@ -1,5 +1,5 @@
-//! Blocks as programs write them: what the benchmark reads. Typical ones of 6 to 24 atoms, the
-//! largest, and the orders and rows that cost most.
+//! Blocks as programs write them: what the benchmark reads. Typical ones of 6 to 24 atoms, ones with
+//! coordinates, the largest, and the orders and rows that cost most.
 
 use super::crowded::{each_atom, two_ends, Crowded};
 use super::random::Random;
@@ -56,6 +56,25 @@ fn written(random: &mut Random, mut content: Structure) -> Vec<u8> {
     buffer
 }
 
+/// A block of 20 to 30 atoms with coordinates of each, in units of 0.0001 Angstrom.
+pub fn typical_coordinate_block(random: &mut Random) -> Vec<u8> {
+    let count = random.between(20, 30);
+    let mut content = Structure::default();
+    content.atoms = (0..count).map(|_| atom(random)).collect();
+    content.bonds = bonds(random, count);
+    let mut block = written(random, content);
+    block.truncate(block.len() - "##END=\n".len());
+    let values: Vec<[i32; 3]> =
+        (0..count).map(|_| [0, 1, 2].map(|_| random.between(-99_999, 99_999))).collect();
+    let most = values.iter().flatten().map(|value| value.abs()).max().unwrap_or(0);
+    block.extend(format!("##MAX_XYZ= {most}\n##XYZ_FACTOR= 0.0001\n##XYZ=\n").bytes());
+    for ([x, y, z], atom) in values.iter().zip(1..) {
+        block.extend(format!("{atom} {x} {y} {z}\n").bytes());
+    }
+    block.extend(b"##END=\n");
+    block
+}
+
 /// 256 atoms and 512 bonds, every row in order.
 pub fn largest_block() -> Vec<u8> {
     let mut block = Crowded::with_atoms(256);
@@ -63,7 +82,7 @@ pub fn largest_block() -> Vec<u8> {
     block.block()
 }
 
-/// Every list full, every row in order.
+/// Every list of the structure table full, every row in order.
 pub fn full_block() -> Vec<u8> {
     let mut block = Crowded::with_atoms(256);
     block.bonds = two_ends(256, 512, "S");

@@ -1,6 +1,6 @@
 //! What the program `cases` prints: for each case of its input a line `number place atoms bonds`.
 
-use super::reading::read;
+use super::reading::read_table;
 use super::table::NUMBERS;
 
 /// A head: `T` or `S`, six digits, a line feed.
@@ -22,6 +22,6 @@ pub fn case_lines(mut input: &[u8]) -> String {
 /// The block read into a table of zeros, whole or one number too short.
 fn line(block: &[u8], short: bool) -> String {
     let mut table = vec![0; NUMBERS - usize::from(short)];
-    let answer = read(block, &mut table);
+    let answer = read_table(block, &mut table);
     format!("{} {} {} {}\n", answer.number, answer.place, table[0], table[1])
 }

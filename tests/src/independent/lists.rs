@@ -9,7 +9,7 @@ use super::table::*;
 pub type Broken = Vec<u32>;
 
 /// The values if nothing is broken.
-fn sound<Values>(values: Values, broken: Broken) -> Result<Values, Broken> {
+pub fn sound<Values>(values: Values, broken: Broken) -> Result<Values, Broken> {
     if broken.is_empty() {
         Ok(values)
     } else {
@@ -18,7 +18,7 @@ fn sound<Values>(values: Values, broken: Broken) -> Result<Values, Broken> {
 }
 
 /// Whether an atom number is one of those listed.
-fn is_listed(atom: i32, atoms: &[Atom]) -> bool {
+pub fn is_listed(atom: i32, atoms: &[Atom]) -> bool {
     1 <= atom && atom as usize <= atoms.len()
 }
 

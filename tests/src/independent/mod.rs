@@ -1,7 +1,9 @@
-//! The independent reader: document 01 read line by line, every broken rule of a line collected,
-//! the least of them answered. Nothing here is shared with the definitions or the proved code.
+//! The independent reader: document 01 and request L2 read line by line, every broken rule of a line
+//! collected, the least of them answered. Nothing here is shared with the definitions or the proved
+//! code.
 
 pub mod cases;
+pub mod coordinates;
 pub mod elements;
 pub mod formula;
 pub mod lines;
@@ -13,6 +15,7 @@ pub mod walking;
 pub mod writing;
 
 pub use cases::case_lines;
-pub use reading::{check, read, Answer};
+pub use coordinates::{position, Position};
+pub use reading::{check, read, read_table, Answer};
 pub use walking::{name, pieces, walk, walk_lines, Walked};
 pub use writing::{write, Written};

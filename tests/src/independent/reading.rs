@@ -1,7 +1,9 @@
 //! Reading one block: document 01, "Lines and labels" (order), "Rows" (version, BLOCK_ID, END) and
-//! "Refusal numbers". On each line every broken refusal number is collected; the earliest line
-//! with one decides, by its least.
+//! "Refusal numbers"; request L2 (the three records of coordinates, the position table, 41 and 42). On
+//! each line every broken refusal number is collected; the earliest line with one decides, by its
+//! least.
 
+use super::coordinates::{self, FLOATS};
 use super::formula::{self, Totals};
 use super::lines::{self, is_allowed, is_blank, label, starts_label, Label, Line};
 use super::lists::{self, Broken};
@@ -15,21 +17,29 @@ pub struct Answer {
     pub place: usize,
 }
 
-/// Reads a block into a table. A short table stays untouched; other refusals zero its numbers.
-pub fn read(block: &[u8], table: &mut [i32]) -> Answer {
-    if table.len() < NUMBERS {
+/// Reads a block into a structure table and a position table. Where one of them is short, both stay
+/// untouched; other refusals clear both.
+pub fn read(block: &[u8], table: &mut [i32], positions: &mut [f64]) -> Answer {
+    if table.len() < NUMBERS || positions.len() < FLOATS {
         return Answer { number: 1, place: 0 };
     }
     match structure(block) {
         Ok(structure) => {
             table[..NUMBERS].copy_from_slice(&laid_out(&structure));
+            positions[..FLOATS].copy_from_slice(&coordinates::placed(&structure.coordinates));
             Answer { number: 0, place: 0 }
         }
         Err(refusal) => {
             table[..NUMBERS].fill(0);
+            positions[..FLOATS].fill(0.0);
             refusal
         }
     }
+}
+
+/// The reading for those who look at the structure table alone.
+pub fn read_table(block: &[u8], table: &mut [i32]) -> Answer {
+    read(block, table, &mut [0.0; FLOATS])
 }
 
 /// The C host's check: "refusal number times 2^32, plus the place".
@@ -128,6 +138,8 @@ impl<'a> Reading<'a> {
             Label::JcampCs => vec![7],
             Label::Molform => self.take_formula(value),
             Label::BlockId => self.take_block_id(&fields),
+            Label::MaxXyz => self.take_most(&fields),
+            Label::XyzFactor => self.take_factor(&fields),
             Label::End => self.broken_at_end(&fields),
             Label::Title => self.take_text(0, line),
             Label::Origin => self.take_text(1, line),
@@ -167,12 +179,26 @@ impl<'a> Reading<'a> {
         }
     }
 
+    /// MAX_XYZ: an empty one is refused 9.
+    fn take_most(&mut self, fields: &[&[u8]]) -> Broken {
+        let most = coordinates::most(fields).map(|most| self.structure.coordinates.most = Some(most));
+        most.err().unwrap_or_default()
+    }
+
+    /// XYZ_FACTOR: an empty one is refused 9.
+    fn take_factor(&mut self, fields: &[&[u8]]) -> Broken {
+        let factor =
+            coordinates::factor(fields).map(|factor| self.structure.coordinates.factor = Some(factor));
+        factor.err().unwrap_or_default()
+    }
+
     fn take_text(&mut self, which: usize, line: &Line) -> Broken {
         self.structure.texts[which] = lines::text(self.block, line);
         vec![]
     }
 
-    /// The END line: a record missing (8), a value (9), formula and atoms different (15).
+    /// The END line: a record missing (8), a value (9), formula and atoms different (15), "one or two
+    /// of the three labels present without the rest" (41), a value above MAX_XYZ (42).
     fn broken_at_end(&self, fields: &[&[u8]]) -> Broken {
         let mut broken = Vec::new();
         let needed = [Label::JcampCs, Label::Origin, Label::Owner, Label::Molform];
@@ -186,6 +212,14 @@ impl<'a> Reading<'a> {
         if self.formula != formula::listed(&self.structure.atoms) {
             broken.push(15);
         }
+        let together = [Label::MaxXyz, Label::XyzFactor, Label::Xyz];
+        let present = together.iter().filter(|label| self.seen.contains(label)).count();
+        if present == 1 || present == 2 {
+            broken.push(41);
+        }
+        if self.structure.coordinates.pass_the_most() {
+            broken.push(42);
+        }
         broken
     }
 
@@ -196,23 +230,31 @@ impl<'a> Reading<'a> {
             return vec![];
         }
         let content = &mut self.structure;
-        let taken =
-            match self.record {
-                Label::JcampCs | Label::Molform | Label::BlockId => Err(vec![9]),
-                Label::Atomlist => lists::atom(&fields, &content.atoms).map(|atom| content.atoms.push(atom)),
-                Label::Bondlist => lists::bond(&fields, &content.atoms, &content.bonds)
-                    .map(|bond| content.bonds.extend(bond)),
-                Label::Charge => lists::charge(&fields, &content.atoms, &content.charges)
-                    .map(|row| content.charges.push(row)),
-                Label::Radical => lists::radical(&fields, &content.atoms, &content.radicals)
-                    .map(|row| content.radicals.push(row)),
-                Label::Stereocenter => lists::centre(&fields, &content.atoms, &content.centres)
-                    .map(|centre| content.centres.push(centre)),
-                Label::Stereopair => {
-                    lists::pair(&fields, &content.atoms, &content.pairs).map(|pair| content.pairs.push(pair))
-                }
-                Label::Title | Label::Origin | Label::Owner | Label::End | Label::Unknown => Ok(()),
-            };
+        let atoms = &content.atoms;
+        let taken = match self.record {
+            Label::JcampCs | Label::Molform | Label::BlockId | Label::MaxXyz | Label::XyzFactor => {
+                Err(vec![9])
+            }
+            Label::Atomlist => lists::atom(&fields, atoms).map(|atom| content.atoms.push(atom)),
+            Label::Bondlist => {
+                lists::bond(&fields, atoms, &content.bonds).map(|bond| content.bonds.extend(bond))
+            }
+            Label::Charge => {
+                lists::charge(&fields, atoms, &content.charges).map(|row| content.charges.push(row))
+            }
+            Label::Radical => {
+                lists::radical(&fields, atoms, &content.radicals).map(|row| content.radicals.push(row))
+            }
+            Label::Stereocenter => {
+                lists::centre(&fields, atoms, &content.centres).map(|centre| content.centres.push(centre))
+            }
+            Label::Stereopair => {
+                lists::pair(&fields, atoms, &content.pairs).map(|pair| content.pairs.push(pair))
+            }
+            Label::Xyz => coordinates::row(&fields, atoms, &content.coordinates.rows)
+                .map(|row| content.coordinates.rows.push(row)),
+            Label::Title | Label::Origin | Label::Owner | Label::End | Label::Unknown => Ok(()),
+        };
         taken.err().unwrap_or_default()
     }
 }

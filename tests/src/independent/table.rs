@@ -1,5 +1,7 @@
 //! Limits and the layout of the structure table: document 01, "The structure table".
 
+use super::coordinates::Coordinates;
+
 pub const NUMBERS: usize = 3856;
 pub const LONGEST_BLOCK: usize = 32768;
 pub const ATOMS: usize = 256;
@@ -53,7 +55,8 @@ pub struct Pair {
     pub group: i32,
 }
 
-/// A block's content; `texts` are start and length of title, origin and owner.
+/// A block's content; `texts` are start and length of title, origin and owner. The coordinates stand
+/// in no structure table.
 #[derive(Clone, Debug, Default, PartialEq)]
 pub struct Structure {
     pub block_id: i32,
@@ -64,6 +67,7 @@ pub struct Structure {
     pub radicals: Vec<Spread>,
     pub centres: Vec<Centre>,
     pub pairs: Vec<Pair>,
+    pub coordinates: Coordinates,
 }
 
 /// The 3,856 numbers of a structure whose lists are in any order.

@@ -2,7 +2,7 @@
 //! "Walking a transfer file".
 
 use super::lines::{label, lines, text, Label, Line};
-use super::reading::read;
+use super::reading::read_table;
 use super::table::NUMBERS;
 
 /// One answer of the walk.
@@ -89,7 +89,7 @@ fn printed(file: &[u8], piece: &Walked) -> String {
     match *piece {
         Walked::Block { start, end } => {
             let mut table = vec![0; NUMBERS];
-            let answer = read(&file[start..end], &mut table);
+            let answer = read_table(&file[start..end], &mut table);
             let place = if answer.number == 0 { 0 } else { start + answer.place };
             format!("B {start} {end} {} {place} {} {}\n", answer.number, table[0], table[1])
         }

@@ -159,6 +159,7 @@ fn taken_out(table: &[i32]) -> Structure {
         radicals: spreads(table, 3, 4),
         centres: used(table, 4).map(centre).collect(),
         pairs: used(table, 5).map(pair).collect(),
+        ..Structure::default()
     }
 }
 

@@ -75,6 +75,9 @@ pub enum Label {
     Radical,
     Stereocenter,
     Stereopair,
+    MaxXyz,
+    XyzFactor,
+    Xyz,
     BlockId,
     End,
     Unknown,
@@ -91,11 +94,9 @@ impl Label {
         let core = lists_and_later & !(self.bit() - 1) | Label::End.bit();
         match self {
             Label::Title | Label::JcampCs => core | Label::BlockId.bit(),
-            Label::Radical | Label::Stereocenter | Label::Stereopair | Label::BlockId | Label::End => {
-                self.bit() | Label::End.bit()
-            }
             Label::Unknown => 0,
-            _ => core,
+            _ if self as u32 <= Label::Charge as u32 => core,
+            _ => self.bit() | Label::End.bit(),
         }
     }
 }
@@ -121,6 +122,9 @@ const CHARGE: u64 = code(b"CHARGE");
 const RADICAL: u64 = code(b"RADICAL");
 const STEREOCENTER: u64 = code(b"STEREOCENTER");
 const STEREOPAIR: u64 = code(b"STEREOPAIR");
+const MAX_XYZ: u64 = code(b"MAXXYZ");
+const XYZ_FACTOR: u64 = code(b"XYZFACTOR");
+const XYZ: u64 = code(b"XYZ");
 const BLOCK_ID: u64 = code(b"BLOCKID");
 const END: u64 = code(b"END");
 
@@ -158,6 +162,9 @@ fn known(code: u64) -> Label {
         RADICAL => Label::Radical,
         STEREOCENTER => Label::Stereocenter,
         STEREOPAIR => Label::Stereopair,
+        MAX_XYZ => Label::MaxXyz,
+        XYZ_FACTOR => Label::XyzFactor,
+        XYZ => Label::Xyz,
         BLOCK_ID => Label::BlockId,
         END => Label::End,
         _ => Label::Unknown,

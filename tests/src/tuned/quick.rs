@@ -1,4 +1,4 @@
-//! The quick leaves: a row of ATOMLIST or BONDLIST in its plainest spelling, read at the line's
+//! The quick leaves: a row of ATOMLIST, BONDLIST or XYZ in its plainest spelling, read at the line's
 //! first byte with no pass before it. They refuse nothing; a row that is not plain is left to the
 //! ordinary step.
 
@@ -18,9 +18,17 @@ pub struct Bond {
     pub next: usize,
 }
 
-/// The longest plain rows: `256 Cl 1` and `256 255 S` with CR and line feed.
+pub struct Coordinates {
+    pub atom: usize,
+    pub values: [i32; 3],
+    pub next: usize,
+}
+
+/// The longest plain rows: `256 Cl 1`, `256 255 S` and `256 -999999 -999999 -999999` with CR and
+/// line feed.
 const ATOM: usize = 10;
 const BOND: usize = 11;
+const COORDINATES: usize = 29;
 
 /// One to three digits and a space: the number and the place behind the space.
 #[inline(always)]
@@ -36,6 +44,25 @@ fn number<const LENGTH: usize>(row: &[u8; LENGTH], at: usize) -> Option<(usize, 
         end += 1;
     }
     (row[end] == b' ').then_some((value, end + 1))
+}
+
+/// A sign, if any, and one to six digits: the value and the place behind them.
+#[inline(always)]
+fn signed<const LENGTH: usize>(row: &[u8; LENGTH], at: usize) -> Option<(i32, usize)> {
+    let is_minus = row[at] == b'-';
+    let from = at + usize::from(is_minus || row[at] == b'+');
+    let (mut value, mut end) = (0, from);
+    while end < from + 6 && row[end].is_ascii_digit() {
+        value = 10 * value + i32::from(row[end] - b'0');
+        end += 1;
+    }
+    (end > from).then_some((if is_minus { -value } else { value }, end))
+}
+
+/// The place behind a space.
+#[inline(always)]
+fn parted<const LENGTH: usize>(row: &[u8; LENGTH], at: usize) -> Option<usize> {
+    (row[at] == b' ').then_some(at + 1)
 }
 
 /// The place behind a line feed, or a carriage return and a line feed.
@@ -76,6 +103,18 @@ pub fn bond(block: &[u8], at: usize) -> Option<Bond> {
     let kind = kind(row[letter])?;
     let next = at + closed(row, letter + 1)?;
     Some(Bond { one, other, kind, next })
+}
+
+/// An atom and three signed numbers.
+#[inline(always)]
+pub fn coordinates(block: &[u8], at: usize) -> Option<Coordinates> {
+    let row: &[u8; COORDINATES] = block.get(at..)?.first_chunk()?;
+    let (atom, behind) = number(row, 0)?;
+    let (x, behind) = signed(row, behind)?;
+    let (y, behind) = signed(row, parted(row, behind)?)?;
+    let (z, behind) = signed(row, parted(row, behind)?)?;
+    let next = at + closed(row, behind)?;
+    Some(Coordinates { atom, values: [x, y, z], next })
 }
 
 /// "S, D, T, Q or A" as 1 to 5.

@@ -2,15 +2,17 @@
 
 use std::ops::Range;
 
+use super::coordinates::Coordinates;
 use super::formula::{self, Masses};
 use super::lines::{self, is_blank, is_gap, Label};
 use super::lists::{ATOMS, ATOMS_FROM, CHARGE, RADICAL};
 use super::rows::{self, Fields};
-use super::{quick, symbols, NUMBERS};
+use super::{quick, symbols, FLOATS, NUMBERS};
 
 pub struct Reading<'a> {
     pub(super) block: &'a [u8],
     pub(super) table: &'a mut [i32; NUMBERS],
+    pub(super) positions: &'a mut [f64; FLOATS],
     pub(super) seen: u32,
     pub(super) record: Label,
     pub(super) text_from: usize,
@@ -25,15 +27,17 @@ pub struct Reading<'a> {
     /// For each element without mass, the formula's total less the atoms'.
     pub(super) counts: [i32; 104],
     pub(super) masses: bool,
+    pub(super) coordinates: Coordinates,
 }
 
 pub type Refused = Result<(), u32>;
 
 impl<'a> Reading<'a> {
-    pub fn new(block: &'a [u8], table: &'a mut [i32; NUMBERS]) -> Self {
+    pub fn new(block: &'a [u8], table: &'a mut [i32; NUMBERS], positions: &'a mut [f64; FLOATS]) -> Self {
         Reading {
             block,
             table,
+            positions,
             seen: 0,
             record: Label::Unknown,
             text_from: 0,
@@ -46,6 +50,7 @@ impl<'a> Reading<'a> {
             formula: 0..0,
             counts: [0; 104],
             masses: false,
+            coordinates: Coordinates::default(),
         }
     }
 
@@ -56,6 +61,7 @@ impl<'a> Reading<'a> {
             at = match self.record {
                 Label::Atomlist => self.quick_atoms(at),
                 Label::Bondlist => self.quick_bonds(at),
+                Label::Xyz => self.quick_coordinates(at),
                 _ => at,
             };
             if at == self.block.len() {
@@ -67,6 +73,7 @@ impl<'a> Reading<'a> {
             return Err((16, self.block.len()));
         }
         self.publish();
+        self.scale();
         Ok(())
     }
 
@@ -102,6 +109,17 @@ impl<'a> Reading<'a> {
         while let Some(row) = quick::bond(self.block, at) {
             let bond = (row.one as i32, row.other as i32, row.kind);
             if self.bond(bond).is_err() {
+                break;
+            }
+            at = row.next;
+        }
+        at
+    }
+
+    /// Rows of XYZ as long as they are plain and sound.
+    fn quick_coordinates(&mut self, mut at: usize) -> usize {
+        while let Some(row) = quick::coordinates(self.block, at) {
+            if self.coordinates(row.atom, row.values).is_err() {
                 break;
             }
             at = row.next;
@@ -149,6 +167,8 @@ impl<'a> Reading<'a> {
             Label::JcampCs => self.version(row)?,
             Label::Molform => self.take_formula(value)?,
             Label::BlockId => self.block_id(row)?,
+            Label::MaxXyz => self.most(row)?,
+            Label::XyzFactor => self.factor(row)?,
             Label::End => self.end(row)?,
             _ => self.further(row)?,
         }
@@ -172,6 +192,7 @@ impl<'a> Reading<'a> {
             Label::Radical => self.spread(RADICAL, row),
             Label::Stereocenter => self.centre(row),
             Label::Stereopair => self.pair(row),
+            Label::Xyz => self.coordinate_row(row),
             _ => Err(9),
         }
     }
@@ -228,7 +249,7 @@ impl<'a> Reading<'a> {
         })
     }
 
-    /// The END line: 8, 9 and 15.
+    /// The END line: 8, 9, 15, 41 and 42.
     fn end(&self, value: &[u8]) -> Refused {
         let needed = Label::JcampCs.bit() | Label::Origin.bit() | Label::Owner.bit() | Label::Molform.bit();
         if self.seen & needed != needed || self.atoms == 0 {
@@ -238,11 +259,17 @@ impl<'a> Reading<'a> {
             return Err(9);
         }
         let agree = self.counts.iter().all(|count| *count == 0) && (!self.masses || self.masses_agree());
-        if agree {
-            Ok(())
-        } else {
-            Err(15)
+        if !agree {
+            return Err(15);
         }
+        let together = Label::MaxXyz.bit() | Label::XyzFactor.bit() | Label::Xyz.bit();
+        if self.seen & together != 0 && self.seen & together != together {
+            return Err(41);
+        }
+        if self.coordinates.pass_the_most() {
+            return Err(42);
+        }
+        Ok(())
     }
 
     fn masses_agree(&self) -> bool {

@@ -2,7 +2,7 @@
 use native.Mathlib.Omega.{arith}
 use borrow.Author.Needs.{needs}
 use Rattle.reader.proofs.PlacedLaws.{place-fits}
-use Rattle.host.proofs.PackLaws.{read-packed, read-table}
+use Rattle.host.proofs.PackLaws.{read-packed, read-tables}
 use Rattle.host.proofs.galebonnet_read.Statement.{statement}
 use Rattle.host.proofs.galebonnet_read.Tie as tie
 
@@ -22,19 +22,25 @@ mul-result : tie.Need-mul-result
 mul-result c = search needs
 
 add-result : tie.Need-add-result
-add-result c = omega (arith, place-fits _ _ _ _ _ _ (c .before .before .before .before .read .ensures .0) (c .before .answer .given .1))
+add-result c = omega (arith, place-fits _ _ _ _ _ _ (c .before .before .before .before .before .before .read .ensures .0) (c .before .answer .given .1))
 
 same-length : tie.Need-same-length
 same-length c = search needs
 
-returns : tie.Need-returns
-returns c = (read-packed _ _ _ _ (c .before .before .before .read .ensures .0) (c .enum-told .given .1), read-table _ _ _ _ (c .before .before .before .read .ensures .0) (c .enum-told .given .1))
-
 same-length-2 : tie.Need-same-length-2
 same-length-2 c = search needs
 
+returns : tie.Need-returns
+returns c = (read-packed _ _ _ _ (c .before .before .before .before .before .read .ensures .0) (c .enum-told .given .1), read-tables _ _ _ _ (c .before .before .before .before .before .read .ensures .0) (c .enum-told .given .1))
+
+same-length-3 : tie.Need-same-length-3
+same-length-3 c = search needs
+
+same-length-4 : tie.Need-same-length-4
+same-length-4 c = search needs
+
 returns-2 : tie.Need-returns-2
-returns-2 c = (read-packed _ _ _ _ (c .before .before .before .before .read .ensures .0) (c .before .answer .given .1), read-table _ _ _ _ (c .before .before .before .before .read .ensures .0) (c .before .answer .given .1))
+returns-2 c = (read-packed _ _ _ _ (c .before .before .before .before .before .before .read .ensures .0) (c .before .answer .given .1), read-tables _ _ _ _ (c .before .before .before .before .before .before .read .ensures .0) (c .before .answer .given .1))
 
 pub galebonnet-read-spec : {M : Type 1} → statement M
 galebonnet-read-spec =
@@ -47,6 +53,8 @@ galebonnet-read-spec =
     mul-result
     add-result
     same-length
-    returns
     same-length-2
+    returns
+    same-length-3
+    same-length-4
     returns-2)

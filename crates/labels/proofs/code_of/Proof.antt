@@ -60,7 +60,19 @@ unfolding placeOfKey keys
 returns-13 c = (sym (ap (λ (k : ℕ). placeOfKey 1 k keys) (c .match .keys13)), omega arith)
 
 returns-14 : tie.Need-returns-14
-returns-14 c = (sym (keyless _ (c .match .rest .0 .0 .0 .0 .0 .0 .0 .0 .0 .0 .0 .0 .1) (c .match .rest .0 .0 .0 .0 .0 .0 .0 .0 .0 .0 .0 .1) (c .match .rest .0 .0 .0 .0 .0 .0 .0 .0 .0 .0 .1) (c .match .rest .0 .0 .0 .0 .0 .0 .0 .0 .0 .1) (c .match .rest .0 .0 .0 .0 .0 .0 .0 .0 .1) (c .match .rest .0 .0 .0 .0 .0 .0 .0 .1) (c .match .rest .0 .0 .0 .0 .0 .0 .1) (c .match .rest .0 .0 .0 .0 .0 .1) (c .match .rest .0 .0 .0 .0 .1) (c .match .rest .0 .0 .0 .1) (c .match .rest .0 .0 .1) (c .match .rest .0 .1) (c .match .rest .1)), omega arith)
+unfolding placeOfKey keys
+returns-14 c = (sym (ap (λ (k : ℕ). placeOfKey 1 k keys) (c .match .keys14)), omega arith)
+
+returns-15 : tie.Need-returns-15
+unfolding placeOfKey keys
+returns-15 c = (sym (ap (λ (k : ℕ). placeOfKey 1 k keys) (c .match .keys15)), omega arith)
+
+returns-16 : tie.Need-returns-16
+unfolding placeOfKey keys
+returns-16 c = (sym (ap (λ (k : ℕ). placeOfKey 1 k keys) (c .match .keys16)), omega arith)
+
+returns-17 : tie.Need-returns-17
+returns-17 c = (sym (keyless _ (c .match .rest .0 .0 .0 .0 .0 .0 .0 .0 .0 .0 .0 .0 .0 .0 .0 .1) (c .match .rest .0 .0 .0 .0 .0 .0 .0 .0 .0 .0 .0 .0 .0 .0 .1) (c .match .rest .0 .0 .0 .0 .0 .0 .0 .0 .0 .0 .0 .0 .0 .1) (c .match .rest .0 .0 .0 .0 .0 .0 .0 .0 .0 .0 .0 .0 .1) (c .match .rest .0 .0 .0 .0 .0 .0 .0 .0 .0 .0 .0 .1) (c .match .rest .0 .0 .0 .0 .0 .0 .0 .0 .0 .0 .1) (c .match .rest .0 .0 .0 .0 .0 .0 .0 .0 .0 .1) (c .match .rest .0 .0 .0 .0 .0 .0 .0 .0 .1) (c .match .rest .0 .0 .0 .0 .0 .0 .0 .1) (c .match .rest .0 .0 .0 .0 .0 .0 .1) (c .match .rest .0 .0 .0 .0 .0 .1) (c .match .rest .0 .0 .0 .0 .1) (c .match .rest .0 .0 .0 .1) (c .match .rest .0 .0 .1) (c .match .rest .0 .1) (c .match .rest .1)), omega arith)
 
 pub code-of-spec : {M : Type 1} → statement M
 code-of-spec =
@@ -79,4 +91,7 @@ code-of-spec =
     returns-11
     returns-12
     returns-13
-    returns-14)
+    returns-14
+    returns-15
+    returns-16
+    returns-17)

@@ -29,6 +29,9 @@ part-read-end c = search needs
 slice-aggregate-read : tie.Need-slice-aggregate-read
 slice-aggregate-read c = search needs
 
+slice-aggregate-read-2 : tie.Need-slice-aggregate-read-2
+slice-aggregate-read-2 c = search needs
+
 read-requires : tie.Need-read-requires
 read-requires c κs = search needs
 
@@ -46,8 +49,8 @@ enum-known-answer c = search needs
 
 add-print-reading : tie.Need-add-print-reading
 add-print-reading c =
-    let pre = c .before .before .before .before .before .before .before .before .before .before .before .before .pre in
-    record { fits = omega (arith, pre .0, pre .1, pre .2, place-fits _ _ _ _ _ _ (c .before .before .before .before .read .ensures .0) (c .before .answer .given .1)) }
+    let pre = c .before .before .before .before .before .before .before .before .before .before .before .before .before .before .pre in
+    record { fits = omega (arith, pre .0, pre .1, pre .2, place-fits _ _ _ _ _ _ (c .before .before .before .before .before .read .ensures .0) (c .before .answer .given .1)) }
 
 slice-aggregate-print-reading-2 : tie.Need-slice-aggregate-print-reading-2
 slice-aggregate-print-reading-2 c = search needs
@@ -73,6 +76,7 @@ print-block-spec =
     part-read-start
     part-read-end
     slice-aggregate-read
+    slice-aggregate-read-2
     read-requires
     enum-told
     slice-aggregate-print-reading

@@ -1,10 +1,11 @@
 //! The definitions held against the independent reader.
 //!
-//! `hold COUNT SEED`, from the project's root, generates COUNT blocks, three tables to ten blocks and one transfer
-//! file to ten, and states the independent reader's answer to each as a theorem by computation over the
-//! definitions of `crates/format/specs`: for a block the number, the place and every number of the lent table; for a
-//! table the number, the count and every byte of the buffer; for a file its pieces, some single steps, a name and
-//! a check. `hold limits` states the named cases at and one over every limit instead. The theorems stand in a
+//! `hold COUNT SEED`, from the project's root, generates COUNT blocks, three blocks with coordinates and three
+//! tables to ten blocks and one transfer file to ten, and states the independent reader's answer to each as a theorem
+//! by computation over the definitions of `crates/format/specs`: for a block the number, the place, every number of
+//! the lent table and every float of the lent positions; for a table the number, the count and every byte of the
+//! buffer; for a file its pieces, some single steps, a name and a check. `hold coordinates COUNT SEED` states COUNT
+//! blocks with coordinates alone, `hold limits` the named cases at and one over every limit. The theorems stand in a
 //! repository of their own under target/held, and the prover checks them there.
 
 mod terms;
@@ -13,22 +14,22 @@ mod theorems;
 use std::collections::BTreeMap;
 use std::path::{Path, PathBuf};
 use std::process::{exit, Command};
+use std::str::FromStr;
 use std::time::Instant;
 use std::{env, fs};
 
-use theorems::{block_cases, file_cases, limit_cases, table_cases, Theorem};
+use theorems::{block_cases, coordinate_cases, file_cases, limit_cases, table_cases, Theorem};
 
 /// How many theorems stand in one file.
 const A_FILE: usize = 25;
 
 fn main() {
     let words: Vec<String> = env::args().skip(1).collect();
-    let (theorems, named) = match words.iter().map(String::as_str).collect::<Vec<_>>()[..] {
-        ["limits"] => (limit_cases(), String::from("limits")),
-        [count, seed] => match (count.parse(), seed.parse()) {
-            (Ok(count), Ok(seed)) => (generated(count, seed), format!("{count} {seed}")),
-            _ => usage(),
-        },
+    let named = words.join(" ");
+    let theorems = match words.iter().map(String::as_str).collect::<Vec<_>>()[..] {
+        ["limits"] => limit_cases(),
+        ["coordinates", count, seed] => coordinate_cases(asked(count), asked(seed)),
+        [count, seed] => generated(asked(count), asked(seed)),
         _ => usage(),
     };
     let began = Instant::now();
@@ -51,35 +52,43 @@ fn main() {
 }
 
 fn usage() -> ! {
-    eprintln!("usage, from the project's root: hold COUNT SEED | hold limits");
+    eprintln!("usage, from the project's root: hold COUNT SEED | hold coordinates COUNT SEED | hold limits");
     exit(2)
+}
+
+/// A number of the command line.
+fn asked<Number: FromStr>(word: &str) -> Number {
+    word.parse().unwrap_or_else(|_| usage())
 }
 
 fn generated(count: usize, seed: u64) -> Vec<Theorem> {
     let mut theorems = block_cases(count, seed);
+    theorems.extend(coordinate_cases(count * 3 / 10, seed));
     theorems.extend(table_cases(count * 3 / 10, seed));
     theorems.extend(file_cases(count / 10, seed));
     theorems
 }
 
-/// How often each refusal number is among the answers.
+/// How often each refusal number is among the answers, and among those that the records of coordinates gave.
 fn report(theorems: &[Theorem], named: &str, seconds: u64) {
-    let mut answers: BTreeMap<(&str, u32), usize> = BTreeMap::new();
-    for theorem in theorems {
-        for number in &theorem.numbers {
-            *answers.entry((theorem.of, *number)).or_default() += 1;
-        }
+    let mut subjects: Vec<&str> = theorems.iter().map(|theorem| theorem.of).collect();
+    subjects.dedup();
+    for subject in subjects {
+        let theirs: Vec<&Theorem> = theorems.iter().filter(|theorem| theorem.of == subject).collect();
+        let numbers = theirs.iter().flat_map(|theorem| theorem.numbers.iter().copied());
+        println!("{subject} {}:{}", theirs.len(), counted(numbers));
     }
-    let mut subject = "";
-    for ((of, number), times) in &answers {
-        if *of != subject {
-            let all = theorems.iter().filter(|theorem| theorem.of == *of).count();
-            print!("{}{of} {all}:", if subject.is_empty() { "" } else { "\n" });
-            subject = of;
-        }
-        print!(" {number} x{times}");
+    let by_coordinates = theorems.iter().filter_map(|theorem| theorem.by_coordinates);
+    println!("refused by the records of coordinates:{}", counted(by_coordinates));
+    println!("hold {named}: {} theorems checked in {seconds} s", theorems.len());
+}
+
+fn counted(numbers: impl Iterator<Item = u32>) -> String {
+    let mut times: BTreeMap<u32, usize> = BTreeMap::new();
+    for number in numbers {
+        *times.entry(number).or_default() += 1;
     }
-    println!("\nhold {named}: {} theorems checked in {seconds} s", theorems.len());
+    times.iter().map(|(number, times)| format!(" {number} x{times}")).collect()
 }
 
 /// The repository of the theorems: the definitions as they are, without their laws, and the crate `held` over them.

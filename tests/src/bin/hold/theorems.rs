@@ -1,21 +1,24 @@
 //! The independent reader's answers, stated as theorems over the definitions.
 
+use galebonnet_tests::generate::coordinates::refused_by_coordinates;
 use galebonnet_tests::generate::{self, Random};
 use galebonnet_tests::independent::{self, Walked};
 
-use crate::terms::{bytes, table};
+use crate::terms::{bytes, positions, table};
 
-/// A theorem: what it is of, the refusal numbers in it, its statement and its proof.
+/// A theorem: what it is of, the refusal numbers in it, the one of them that the records of
+/// coordinates gave, its statement and its proof.
 pub struct Theorem {
     pub of: &'static str,
     pub numbers: Vec<u32>,
+    pub by_coordinates: Option<u32>,
     statement: String,
     open: &'static str,
     proof: &'static str,
 }
 
 fn computed(of: &'static str, numbers: Vec<u32>, statement: String) -> Theorem {
-    Theorem { of, numbers, statement, open: "computing", proof: "refl" }
+    Theorem { of, numbers, by_coordinates: None, statement, open: "computing", proof: "refl" }
 }
 
 /// A file of theorems, numbered from one on.
@@ -31,13 +34,15 @@ pub fn file(theorems: &[Theorem], from: usize) -> String {
 
 const HEAD: &str = "-- Generated: the independent reader's answers, over the definitions.
 use Prim.Native.Nat.{ℕ}
+use mathlib.Core.Bool.{true, false}
 use mathlib.Core.Path.{_≡_, refl}
 use mathlib.Core.List.{List, [], _∷_}
 use lib.ListN.{length, replicate, length-replicate}
 use lib.IntN.{ℤ, pos, negsuc}
+use lib.Ieee.{fin}
 use Rattle.lists.specs.Lists.{concat}
 use Rattle.format.specs.Bytes.{Bytes, bytes}
-use Rattle.format.specs.Table.{readResult, readAnswer}
+use Rattle.format.specs.Table.{lent, readResult, readAnswer}
 use Rattle.format.specs.Writing.{writeResult}
 use Rattle.format.specs.Walking.{block, stray, piece, Found, Finished, NotWalked, pieces, walkAt, nameOf, checkOf}
 use Rattle.format.proofs.Computing.{computing}
@@ -51,44 +56,65 @@ unfolding repeated
 repeated-length n b = length-replicate n b
 ";
 
-/// What a lent table holds before: sevens, so that what is zeroed and what is untouched can be told apart.
+/// What lent tables hold before: sevens, so that what is cleared and what is untouched can be told apart.
 const LENT: i32 = 7;
 
-fn block_case(block: &[u8], lent: usize) -> Theorem {
-    let mut numbers = vec![LENT; lent];
-    let answer = independent::read(block, &mut numbers);
+/// Numbers and floats of long enough tables.
+const LONG: (usize, usize) = (3856, 1024);
+
+/// A block read into tables of so many numbers and so many floats: the answer and both tables whole.
+fn block_case(of: &'static str, block: &[u8], (numbers, floats): (usize, usize)) -> Theorem {
+    let (mut after, mut places) = (vec![LENT; numbers], vec![f64::from(LENT); floats]);
+    let before = format!("(lent {} {})", table(&after), positions(&places));
+    let answer = independent::read(block, &mut after, &mut places);
     let statement = format!(
-        "readResult 103 {} (replicate {lent} (pos {LENT})) ≡ readAnswer {} {} {}",
+        "readResult 103 {} {before} ≡ readAnswer {} {} (lent {} {})",
         bytes(block),
         answer.number,
         answer.place,
-        table(&numbers)
+        table(&after),
+        positions(&places)
     );
-    computed("blocks", vec![answer.number], statement)
+    let by_coordinates = refused_by_coordinates(block, answer);
+    Theorem { by_coordinates, ..computed(of, vec![answer.number], statement) }
 }
 
-/// Generated blocks, a few of them into a short or a longer table, a few over the longest length.
+/// Generated blocks, a few of them into short or longer tables, a few over the longest length.
 pub fn block_cases(count: usize, seed: u64) -> Vec<Theorem> {
     let mut random = Random::new(seed);
     let mut cases = Vec::new();
     for index in 0..count {
         let mut block = generate::block(&mut random);
-        let lent = match index % 20 {
-            0 => 3855,
-            1 => 3858,
-            _ => 3856,
-        };
-        if index % 40 == 3 {
+        if index % 40 == 6 {
             block.resize(32_769 + index, b' ');
         }
-        cases.push(block_case(&block, lent));
+        cases.push(block_case("blocks", &block, lengths(index)));
     }
     cases
 }
 
+/// Generated blocks with coordinates, into tables of the same lengths.
+pub fn coordinate_cases(count: usize, seed: u64) -> Vec<Theorem> {
+    let mut random = Random::new(seed ^ 0x0058_595a);
+    let case = |index| block_case("coordinates", &generate::coordinate_block(&mut random), lengths(index));
+    (0..count).map(case).collect()
+}
+
+/// One of 20 cases for each way in which a table is short or longer.
+fn lengths(index: usize) -> (usize, usize) {
+    match index % 20 {
+        0 => (3855, 1024),
+        1 => (3858, 1024),
+        2 => (3856, 1023),
+        3 => (3856, 1026),
+        4 => (3855, 1023),
+        _ => LONG,
+    }
+}
+
 /// The named blocks, at and one over every limit.
 pub fn limit_cases() -> Vec<Theorem> {
-    generate::limit_blocks().iter().map(|(_, block)| block_case(block, 3856)).collect()
+    generate::limit_blocks().iter().map(|(_, block)| block_case("blocks", block, LONG)).collect()
 }
 
 /// Generated tables with their texts and buffers.
@@ -162,6 +188,7 @@ fn too_long(place: usize) -> Theorem {
     Theorem {
         of: "files",
         numbers: vec![31],
+        by_coordinates: None,
         statement,
         open: "walkAt",
         proof: "rw (repeated-length 16777217 35)",

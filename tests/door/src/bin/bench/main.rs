@@ -23,7 +23,8 @@ fn main() {
     );
     let files = files::files();
     everything(&files, &proved, &tuned);
-    writing(&files[..4], &proved);
+    writing(&files[..5], &proved);
+    clearing(&files[..5], &proved);
     growth(&proved, &tuned);
     if let Some(other) = Proved::new(&folder.join("other")) {
         beside(&files, &other, &proved, &tuned);
@@ -104,6 +105,17 @@ fn writing(files: &[File], proved: &Proved) {
     }
 }
 
+/// Nanoseconds a block of clearing the 1,024 floats of the position table, and their share of the reading.
+fn clearing(files: &[File], proved: &Proved) {
+    let columns = [&proved.read, &Column::new("clearing the positions", work::clear_positions)];
+    println!("\nNanoseconds a block:\n\n| file | read | clearing the positions | clearing / read |\n|---|---|---|---|");
+    for file in files {
+        let seconds = best(&columns, file, 1);
+        let times = each(&seconds, |seconds| nanoseconds(seconds.best, file.blocks.len()));
+        println!("| {} | {times} | {} |", file.name, ratio(seconds[1].best, seconds[0].best));
+    }
+}
+
 /// Nanoseconds a byte over files of typical blocks from 1 KB to 16 MB.
 fn growth(proved: &Proved, tuned: &Column) {
     let by_bytes = Column::new("line feeds, byte by byte", work::feeds_by_bytes);
@@ -129,6 +141,14 @@ fn beside(files: &[File], other: &Proved, proved: &Proved, tuned: &Column) {
     println!("| file | walk | | check | | read | | write | | read / tuned | |");
     println!("|---|---|---|---|---|---|---|---|---|---|---|");
     for file in files {
+        if file.coordinates && !other.reads_positions {
+            println!(
+                "| {} | left out: the other library skips the records of coordinates {}|",
+                file.name,
+                "| ".repeat(9)
+            );
+            continue;
+        }
         let columns: Vec<&Column> =
             [other, proved].into_iter().flat_map(Proved::columns).chain([tuned]).collect();
         let seconds = best(&columns, file, 1);

@@ -4,11 +4,15 @@
 use std::ffi::{c_char, c_int, c_void, CString};
 use std::path::Path;
 
+use galebonnet_tests::generate::neon::NEON;
+
 /// How many bytes behind the start of a cache line a library's code starts.
 const PADS: [usize; 4] = [16, 32, 48, 64];
 
-/// `galebonnet_read`, and the tuned reader's.
-pub type Read = unsafe extern "C" fn(*const u8, usize, *mut i32, usize) -> u64;
+/// `galebonnet_read`, and the tuned reader's. A library from before the positions takes the first four
+/// arguments alone: on x86-64 the System V calling convention passes six in registers and the caller
+/// takes nothing back, so the two that such a function does not know of do it no harm.
+pub type Read = unsafe extern "C" fn(*const u8, usize, *mut i32, usize, *mut f64, usize) -> u64;
 
 /// The proved library at one place: the functions of include/galebonnet.h over slices.
 pub struct Library {
@@ -24,8 +28,13 @@ impl Library {
         unsafe { (self.check)(block.as_ptr(), block.len()) }
     }
 
-    pub fn read(&self, block: &[u8], table: &mut [i32]) -> u64 {
-        called(self.read, block, table)
+    pub fn read(&self, block: &[u8], table: &mut [i32], positions: &mut [f64]) -> u64 {
+        called(self.read, block, table, positions)
+    }
+
+    /// Whether the reading knows of positions: a short table of them is refused.
+    pub fn reads_positions(&self) -> bool {
+        self.read(NEON.as_bytes(), &mut [0; 3856], &mut []) != 0
     }
 
     pub fn write(&self, table: &[i32], texts: &[u8], buffer: &mut [u8]) -> u64 {
@@ -43,9 +52,10 @@ impl Library {
 }
 
 /// A reader called on slices.
-pub fn called(read: Read, block: &[u8], table: &mut [i32]) -> u64 {
-    // SAFETY: both pairs are those of slices that do not overlap.
-    unsafe { read(block.as_ptr(), block.len(), table.as_mut_ptr(), table.len()) }
+pub fn called(read: Read, block: &[u8], table: &mut [i32], positions: &mut [f64]) -> u64 {
+    let (length, numbers, floats) = (block.len(), table.len(), positions.len());
+    // SAFETY: the three pairs are those of slices that do not overlap.
+    unsafe { read(block.as_ptr(), length, table.as_mut_ptr(), numbers, positions.as_mut_ptr(), floats) }
 }
 
 /// The proved library in a folder, at each place; none where the folder is not there.

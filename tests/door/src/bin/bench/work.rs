@@ -1,5 +1,6 @@
 //! What is measured, each over a whole file. The readers are given the blocks' places, so that the walk is not measured with them.
 
+use std::hint::black_box;
 use std::path::Path;
 
 use galebonnet_tests::independent;
@@ -28,6 +29,8 @@ pub struct Proved {
     pub check: Column,
     pub read: Column,
     pub read_and_write: Column,
+    /// False of a library from before the positions: it skips the records of coordinates.
+    pub reads_positions: bool,
 }
 
 impl Proved {
@@ -42,6 +45,7 @@ impl Proved {
             check: column("check", check)?,
             read: column("read", read)?,
             read_and_write: column("read and write", read_and_write)?,
+            reads_positions: libraries(folder)?.iter().all(Library::reads_positions),
         })
     }
 
@@ -84,14 +88,28 @@ fn check(library: &Library, file: &File) -> usize {
     each_block(file, |block| library.check(block) as usize)
 }
 
+/// A structure table and a position table.
+fn tables() -> (Vec<i32>, Vec<f64>) {
+    (vec![0; 3856], vec![0.0; 1024])
+}
+
 fn read(library: &Library, file: &File) -> usize {
-    let mut table = vec![0; 3856];
-    each_block(file, |block| library.read(block, &mut table) as usize)
+    let (mut table, mut positions) = tables();
+    each_block(file, |block| library.read(block, &mut table, &mut positions) as usize)
 }
 
 fn tuned_read(read: Read, file: &File) -> usize {
-    let mut table = vec![0; 3856];
-    each_block(file, |block| called(read, block, &mut table) as usize)
+    let (mut table, mut positions) = tables();
+    each_block(file, |block| called(read, block, &mut table, &mut positions) as usize)
+}
+
+/// The 1,024 floats cleared for each block, which every reading does at least once.
+pub fn clear_positions(file: &File) -> usize {
+    let (_, mut positions) = tables();
+    each_block(file, |block| {
+        black_box(&mut positions[..]).fill(0.0);
+        block.len()
+    })
 }
 
 pub fn independent_walk(file: &File) -> usize {
@@ -99,23 +117,23 @@ pub fn independent_walk(file: &File) -> usize {
 }
 
 pub fn independent_read(file: &File) -> usize {
-    let mut table = vec![0; 3856];
-    each_block(file, |block| independent::read(block, &mut table).place)
+    let (mut table, mut positions) = tables();
+    each_block(file, |block| independent::read(block, &mut table, &mut positions).place)
 }
 
 /// Each block read, and written from the table that it gave.
 fn read_and_write(library: &Library, file: &File) -> usize {
-    let (mut table, mut buffer) = (vec![0; 3856], vec![0; 32_768]);
+    let ((mut table, mut positions), mut buffer) = (tables(), vec![0; 32_768]);
     each_block(file, |block| {
-        library.read(block, &mut table);
+        library.read(block, &mut table, &mut positions);
         library.write(&table, block, &mut buffer) as usize
     })
 }
 
 pub fn independent_read_and_write(file: &File) -> usize {
-    let (mut table, mut buffer) = (vec![0; 3856], vec![0; 32_768]);
+    let ((mut table, mut positions), mut buffer) = (tables(), vec![0; 32_768]);
     each_block(file, |block| {
-        independent::read(block, &mut table);
+        independent::read(block, &mut table, &mut positions);
         independent::write(&table, block, &mut buffer).count
     })
 }

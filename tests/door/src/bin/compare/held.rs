@@ -15,13 +15,17 @@ pub struct Held {
     compared: u64,
     differ: u64,
     readings: BTreeMap<u32, u64>,
+    by_coordinates: BTreeMap<u32, u64>,
     writings: BTreeMap<u32, u64>,
 }
 
 impl Held {
-    /// Counts the answer to a block.
-    pub fn read(&mut self, number: u32) {
+    /// Counts the answer to a block, and the refusal that its records of coordinates gave.
+    pub fn read(&mut self, number: u32, by_coordinates: Option<u32>) {
         *self.readings.entry(number).or_default() += 1;
+        if let Some(number) = by_coordinates {
+            *self.by_coordinates.entry(number).or_default() += 1;
+        }
     }
 
     /// Counts the answer to a table.
@@ -71,6 +75,7 @@ impl Held {
     pub fn report(&self, seed: u64) -> i32 {
         println!("{} blocks, {} files, {} tables, seed {seed}", self.blocks, self.files, self.tables);
         println!("answers to blocks: {}", shown(&self.readings));
+        println!("refused by the records of coordinates: {}", shown(&self.by_coordinates));
         println!("answers to tables: {}", shown(&self.writings));
         println!("compare: {} passed, {} failed", self.compared - self.differ, self.differ);
         i32::from(self.differ > 0)
@@ -102,5 +107,12 @@ impl<Element: Copy> Guarded<Element> {
 
     pub fn part_mut(&mut self) -> &mut [Element] {
         &mut self.all[self.lent.clone()]
+    }
+}
+
+impl Guarded<f64> {
+    /// Floats by their bits: no number is equal to itself, and -0.0 is another one than 0.0.
+    pub fn bits(&self) -> Vec<u64> {
+        self.all.iter().map(|float| float.to_bits()).collect()
     }
 }

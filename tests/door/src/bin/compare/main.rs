@@ -1,9 +1,10 @@
 //! The proved library held against the independent reader and writer, over the C door.
 //!
 //! `compare CASES SEED TABLES`, from the project's root, runs the named blocks and then CASES generated cases, ten blocks to one transfer file, and compares: number and
-//! place of check and read, every number of the table, the name; the walk from many places of a file; and what stands around everything lent. Then it writes the
-//! samples' tables and TABLES generated ones, sound, disturbed and extreme: number, count, whole buffer; and what was written is read again. It prints what differs, how
-//! often each refusal occurred, and a closing line.
+//! place of check and read, every number of the table, every bit of the positions, the name; the walk from many places of a file; and what stands around everything lent.
+//! Then it writes the samples' tables and TABLES generated ones, sound, disturbed and extreme: number, count, whole buffer; and what was written is read again.
+//! `compare coordinates CASES SEED` runs CASES generated blocks with coordinates and nothing else. It prints what differs, how often each refusal occurred, and a closing
+//! line.
 
 mod blocks;
 mod files;
@@ -14,29 +15,67 @@ mod tables;
 use std::env;
 use std::process::exit;
 
+use blocks::LONG;
 use galebonnet_tests::generate::{self, Random};
 use held::Held;
 
 fn main() {
-    let words: Vec<String> = env::args().skip(1).collect();
-    let numbers: Option<Vec<u64>> = words.iter().map(|word| word.parse().ok()).collect();
-    let Some(&[cases, seed, tables]) = numbers.as_deref() else {
-        eprintln!("usage, from the project's root: compare CASES SEED TABLES");
-        exit(2);
-    };
+    let mut words: Vec<String> = env::args().skip(1).collect();
+    let coordinates = words.first().is_some_and(|word| word == "coordinates");
+    let numbers: Option<Vec<u64>> =
+        words.drain(usize::from(coordinates)..).map(|word| word.parse().ok()).collect();
     let mut held = Held::default();
-    for (name, block) in generate::limit_blocks() {
-        blocks::compared(&mut held, &name, &block, 3856);
-    }
-    files::limits(&mut held);
-    generated(&mut held, cases, seed);
-    samples::compared(&mut held);
-    generated_tables(&mut held, tables, seed);
+    let seed = match (coordinates, numbers.as_deref()) {
+        (true, Some(&[cases, seed])) => {
+            generated_coordinates(&mut held, cases, seed);
+            seed
+        }
+        (false, Some(&[cases, seed, tables])) => {
+            everything(&mut held, cases, seed, tables);
+            seed
+        }
+        _ => {
+            eprintln!(
+                "usage, from the project's root: compare CASES SEED TABLES | compare coordinates CASES SEED"
+            );
+            exit(2);
+        }
+    };
     exit(held.report(seed));
 }
 
-/// Tables of these lengths are lent in turn.
-const LENT: [usize; 7] = [3856, 3856, 3856, 3855, 3860, 4000, 0];
+fn everything(held: &mut Held, cases: u64, seed: u64, tables: u64) {
+    for (name, block) in generate::limit_blocks() {
+        blocks::compared(held, &name, &block, LONG);
+    }
+    files::limits(held);
+    generated(held, cases, seed);
+    samples::compared(held);
+    generated_tables(held, tables, seed);
+}
+
+/// Tables of so many numbers and floats are lent in turn: five of 25 cases with one that is short, three with one that is longer.
+fn lent(case: u64) -> (usize, usize) {
+    match case % 25 {
+        0 => (3855, 1024),
+        1 => (3856, 1023),
+        2 => (0, 1024),
+        3 => (3856, 0),
+        4 => (3855, 1023),
+        5 => (3860, 1024),
+        6 => (3856, 1025),
+        7 => (4000, 2000),
+        _ => LONG,
+    }
+}
+
+fn generated_coordinates(held: &mut Held, cases: u64, seed: u64) {
+    let mut random = Random::new(seed);
+    for case in 0..cases {
+        let block = generate::coordinate_block(&mut random);
+        blocks::compared(held, "generated with coordinates", &block, lent(case));
+    }
+}
 
 fn generated(held: &mut Held, cases: u64, seed: u64) {
     let mut random = Random::new(seed);
@@ -46,7 +85,7 @@ fn generated(held: &mut Held, cases: u64, seed: u64) {
             files::compared(held, &mut random, &file);
         } else {
             let block = generate::block(&mut random);
-            blocks::compared(held, "generated", &block, LENT[case as usize % LENT.len()]);
+            blocks::compared(held, "generated", &block, lent(case));
         }
     }
 }

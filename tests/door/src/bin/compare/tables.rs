@@ -4,6 +4,7 @@ use galebonnet::door;
 use galebonnet_tests::generate::TableCase;
 use galebonnet_tests::independent;
 
+use super::blocks::LONG;
 use super::held::{Guarded, Held};
 
 /// What stands around a lent table, around the texts, and in and around the buffer before.
@@ -34,8 +35,9 @@ pub fn compared(held: &mut Held, case: &TableCase) {
 
 /// "Reading that form gives the table and texts back", and written again it is the same bytes.
 fn way_back(held: &mut Held, case: &TableCase, form: &[u8]) {
-    let mut table = vec![-1; 3856];
-    held.same("the form is accepted", form, door::read(form, &mut table), (0, 0));
+    let (mut table, mut positions) = (vec![-1; LONG.0], vec![-1.0; LONG.1]);
+    held.same("the form is accepted", form, door::read(form, &mut table, &mut positions), (0, 0));
+    held.same("the form has no positions", form, positions.iter().any(|float| float.to_bits() != 0), false);
     held.same_list("the form's table", form, &without_texts(&table), &without_texts(&case.table));
     held.same("the form's texts", form, texts(&table, form), texts(&case.table, &case.texts));
     let mut again = Guarded::new(&vec![BYTE; form.len()], BYTE);
