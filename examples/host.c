@@ -1,5 +1,5 @@
-/* A C host over the door: the pieces of a transfer file, each block with its judgement, its atoms, its title, the length of its written form and the positions of its
- * atoms, in Angstrom.
+/* A C host over the door: the pieces of a transfer file, each block with its judgement, its atoms, whether it is handed as a whole, its title, the length of its written
+ * form and the positions of its atoms, in Angstrom.
  *
  *     gcc -O2 -Iinclude examples/host.c target/staticlib/libhost.a -o target/host && target/host samples/damaged.jcs
  */
@@ -11,7 +11,7 @@
 
 static uint8_t file[GALEBONNET_FILE + 1];
 
-/* The count of bytes of the written form; reading it gives the same atoms and all that comes behind them. */
+/* The count of bytes of the written form; reading it gives the same number of handedness and all that comes behind it. */
 static unsigned written(const int32_t *table, const uint8_t *block, size_t length) {
     uint8_t form[GALEBONNET_BLOCK];
     int32_t again[GALEBONNET_TABLE];
@@ -22,7 +22,7 @@ static unsigned written(const int32_t *table, const uint8_t *block, size_t lengt
     if (answer >> 32 != GALEBONNET_ACCEPTED ||
         galebonnet_read(form, (size_t)answer, again, GALEBONNET_TABLE, positions, GALEBONNET_POSITIONS) != GALEBONNET_ACCEPTED)
         abort();
-    if (memcmp(table + GALEBONNET_ATOM(0), again + GALEBONNET_ATOM(0), sizeof again - GALEBONNET_ATOM(0) * sizeof *again) != 0)
+    if (memcmp(table + GALEBONNET_HANDED, again + GALEBONNET_HANDED, sizeof again - GALEBONNET_HANDED * sizeof *again) != 0)
         abort();
     return (unsigned)answer;
 }
@@ -45,8 +45,8 @@ static void show_block(const uint8_t *block, size_t length) {
     int size = name ? (int)(name & 0xffffffff) : 1;
     printf("%.*s: ", size, title);
     if (answer == GALEBONNET_ACCEPTED)
-        printf("%d atoms, %d bonds, written in %u bytes\n", (int)table[GALEBONNET_ATOM_COUNT], (int)table[GALEBONNET_BOND_COUNT],
-               written(table, block, length));
+        printf("%d atoms, %d bonds%s, written in %u bytes\n", (int)table[GALEBONNET_ATOM_COUNT], (int)table[GALEBONNET_BOND_COUNT],
+               table[GALEBONNET_HANDED] ? ", handed as a whole" : "", written(table, block, length));
     else
         printf("refusal %u at %u of the block\n", (unsigned)(answer >> 32), (unsigned)(answer & 0xffffffff));
     show_positions(positions);

@@ -38,6 +38,7 @@ extern "C" {
 #define GALEBONNET_PAIR_COUNT 5
 #define GALEBONNET_BLOCK_ID 6             /* 0: none */
 #define GALEBONNET_TEXT(i) (7 + 2 * (i))  /* start and length in the block of title 0, origin 1, owner 2; 0, 0 where empty */
+#define GALEBONNET_HANDED 13              /* 1: the molecule is handed as a whole (STEREOMOLECULE has its YES), and there is no centre and no pair; else 0 */
 #define GALEBONNET_ATOM(i) (16 + 5 * (i)) /* element, mass (0 none), implied hydrogens, charge row, radical row (from 1; 0 none); atom 1 is i = 0 */
 #define GALEBONNET_BOND(i) (1296 + 3 * (i))   /* lower atom, higher atom, kind 1 to 5 for S, D, T, Q, A */
 #define GALEBONNET_CHARGE(i) (2832 + (i))     /* the charge spread over the atoms of row i + 1 */
@@ -59,11 +60,11 @@ enum galebonnet_refusal {
     GALEBONNET_LABEL_ORDER = 6,      /* known label repeated or out of order */
     GALEBONNET_VERSION_NUMBER = 7,   /* version not 3.7 */
     GALEBONNET_RECORD_MISSING = 8,   /* JCAMP-CS, ORIGIN, OWNER, MOLFORM or an ATOMLIST with a row missing at END */
-    GALEBONNET_SHAPE = 9,            /* row of the wrong shape */
+    GALEBONNET_SHAPE = 9,            /* row of the wrong shape; at END a value, or none for STEREOMOLECULE */
     GALEBONNET_RANGE = 10,           /* number outside its range, a zero factor too */
     GALEBONNET_ATOM_NUMBER = 11,     /* atom number not the next one, or not listed */
     GALEBONNET_SYMBOL = 12,          /* unknown symbol */
-    GALEBONNET_CLASH = 13,           /* clash, or a row of XYZ whose atom is not above the last row's */
+    GALEBONNET_CLASH = 13,           /* clash, or a row of XYZ whose atom is not above the last row's; at END the YES beside a centre or a pair */
     GALEBONNET_LIST_FULL = 14,       /* one row more than its list holds */
     GALEBONNET_FORMULA = 15,         /* formula and atoms differ */
     GALEBONNET_NO_END = 16,          /* no END line */
@@ -89,12 +90,12 @@ uint64_t galebonnet_check(const uint8_t *block, size_t length);
 uint64_t galebonnet_read(const uint8_t *block, size_t length, int32_t *table, size_t numbers, double *positions, size_t floats);
 
 /* Writes a table in the one written form. The texts are the bytes in which the table's title, origin and owner stand: the block that was read, or any others.
- * Answers the refusal number times 2^32, plus the count of bytes written. On success that is the count alone: the form stands at the buffer's start, and the bytes beyond
- * it stay as they were. The refusals, tested in this order, come with count 0 and a buffer that is untouched: 1 the table has under 3,856 numbers; 21 it is not
- * sound (no atom, or a count, range, order, clash or zero rule broken, or a text out of bounds, untrimmed, with a byte not allowed, or with `##` right after a
- * line feed); 23 the form would pass 32,768 bytes; 22 the buffer is shorter than the form. Numbers beyond 3,856 are not looked at. A table that galebonnet_read
- * filled is sound with the bytes of its block; a buffer of GALEBONNET_BLOCK bytes is never too short. Reading the form gives the same table but for the three
- * places where its texts start, and the same texts. Positions are not written: the form has none. */
+ * Answers the refusal number times 2^32, plus the count of bytes written. On success that is the count alone: the form stands at the buffer's start, and the
+ * bytes beyond it stay as they were. The refusals, tested in this order, come with count 0 and a buffer that is untouched: 1 the table has under 3,856 numbers;
+ * 21 it is not sound (no atom, or a count, range, order, clash or zero rule broken, number 13 set beside a centre or a pair, or a text out of bounds, untrimmed,
+ * with a byte not allowed, or with `##` right after a line feed); 23 the form would pass 32,768 bytes; 22 the buffer is shorter than the form. Numbers beyond
+ * 3,856 are not looked at. A table that galebonnet_read filled is sound with the bytes of its block; a buffer of GALEBONNET_BLOCK bytes is never too short.
+ * Reading the form gives the same table but for the three places where its texts start, and the same texts. Positions are not written: the form has none. */
 uint64_t galebonnet_write(const int32_t *table, size_t numbers, const uint8_t *texts, size_t texts_length, uint8_t *buffer, size_t room);
 
 /* One piece of a transfer file, from a place on. Answers the kind times 2^32, plus the piece's end: 1 a block, 2 a stray run, both from the place to the end; 0

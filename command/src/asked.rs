@@ -19,10 +19,10 @@ counts blocks, accepted, refused, stray runs and bytes.
 `check` prints on standard error. A block that is accepted, but whose written form would pass 32,768
 bytes, is reported as refusal 23 at its start and counts as refused.
 
-    --verbose   a line for each sound block too, with its atoms, bonds and, where coordinates are
-                given, positions; and for stray runs of blanks
+    --verbose   a line for each sound block too, with its atoms, bonds, positions, where coordinates
+                are given, and whether it is handed as a whole; and for stray runs of blanks
     --tsv       a row for each piece: file, kind, start, end, number, place, line, atoms, bonds,
-                positions, name
+                positions, handed (1 or 0), name
 
 Status: 0 all sound, 1 something refused or a stray run with content, 2 bad use or a file that
 cannot be read.

@@ -14,6 +14,11 @@ const POSITIONS: usize = 1024;
 const POSITION: usize = 4;
 const BLOCK: usize = 32_768;
 
+/// Places in the table.
+const ATOM_COUNT: usize = 0;
+const BOND_COUNT: usize = 1;
+const HANDED: usize = 13;
+
 /// Every piece of one file.
 pub fn all(file: &str, bytes: &[u8], report: &mut Report, mut forms: Option<&mut (dyn Write + 'static)>) {
     report.seen.bytes += bytes.len();
@@ -41,7 +46,8 @@ fn judged(block: &[u8], forms: Option<&mut (dyn Write + 'static)>) -> Judged {
     let (mut table, mut floats) = (vec![0; TABLE], vec![0.0; POSITIONS]);
     let (number, place) = door::read(block, &mut table, &mut floats);
     let positions = floats.chunks_exact(POSITION).filter(|position| position[0] == 1.0).count();
-    let judged = Judged { number, place, atoms: table[0], bonds: table[1], positions };
+    let (atoms, bonds, handed) = (table[ATOM_COUNT], table[BOND_COUNT], table[HANDED]);
+    let judged = Judged { number, place, atoms, bonds, positions, handed };
     let (0, Some(forms)) = (number, forms) else { return judged };
     let mut buffer = vec![0; BLOCK];
     let (number, count) = door::write(&table, block, &mut buffer);

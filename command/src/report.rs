@@ -23,6 +23,8 @@ pub struct Judged {
     pub bonds: i32,
     /// How many atoms have a position.
     pub positions: usize,
+    /// 1 where the molecule is handed as a whole, else 0.
+    pub handed: i32,
 }
 
 /// What was seen in all files.
@@ -59,7 +61,7 @@ impl<'a> Report<'a> {
     }
 
     pub fn block(&mut self, piece: &Piece, judged: &Judged) {
-        let Judged { number, place, atoms, bonds, positions } = *judged;
+        let Judged { number, place, atoms, bonds, positions, handed } = *judged;
         let (file, start, end) = (piece.file, piece.start, piece.start + piece.bytes.len());
         let line = piece.line + feeds(&piece.bytes[..place]);
         let place = start + place;
@@ -68,7 +70,7 @@ impl<'a> Report<'a> {
         self.seen.refused += usize::from(number > 0);
         if self.asked.tsv {
             self.put(&format!(
-                "{file}\tblock\t{start}\t{end}\t{number}\t{place}\t{line}\t{atoms}\t{bonds}\t{positions}\t{name}"
+                "{file}\tblock\t{start}\t{end}\t{number}\t{place}\t{line}\t{atoms}\t{bonds}\t{positions}\t{handed}\t{name}"
             ));
         } else if number > 0 {
             let reason = refusals::text(number);
@@ -77,8 +79,9 @@ impl<'a> Report<'a> {
             ));
         } else if self.asked.verbose {
             let placed = if positions > 0 { format!(", {positions} positions") } else { String::new() };
+            let whole = if handed == 1 { ", handed as a whole" } else { "" };
             self.put(&format!(
-                "{file}:{line}: accepted, {atoms} atoms, {bonds} bonds{placed}, block \"{name}\""
+                "{file}:{line}: accepted, {atoms} atoms, {bonds} bonds{placed}{whole}, block \"{name}\""
             ));
         }
     }
@@ -89,7 +92,7 @@ impl<'a> Report<'a> {
         self.seen.stray += 1;
         self.seen.content |= content;
         if self.asked.tsv {
-            self.put(&format!("{file}\tstray\t{start}\t{}\t\t{start}\t{line}\t\t\t\t", start + length));
+            self.put(&format!("{file}\tstray\t{start}\t{}\t\t{start}\t{line}\t\t\t\t\t", start + length));
         } else if content || self.asked.verbose {
             self.put(&format!("{file}:{line}: stray run of {length} bytes at byte {start}"));
         }

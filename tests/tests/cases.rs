@@ -33,7 +33,7 @@ fn every_refusal_from_1_on_occurs_under_names_that_stand_once() {
     assert_eq!(names.len(), cases().len());
 }
 
-/// The answers that document 01 gives in words.
+/// The answers that document 01 and request L4 give in words.
 #[test]
 fn the_cases_of_document_01() {
     let expected = [
@@ -53,6 +53,10 @@ fn the_cases_of_document_01() {
         ("groups A and a", "0 0 2 0"),
         ("neon into a short table", "1 0 0 0"),
         ("32,769 bytes into a short table", "1 0 0 0"),
+        ("STEREOMOLECULE below `YES`", "0 0 3 0"),
+        ("STEREOMOLECULE behind `YESS`", "9 114 0 0"),
+        ("END line with no value", "9 102 0 0"),
+        ("END line with YES beside a centre, 42, 15", "13 172 0 0"),
     ];
     let lines = case_lines(&case_input());
     let named: Vec<(String, &str)> = cases().into_iter().map(|case| case.name).zip(lines.lines()).collect();

@@ -1,7 +1,7 @@
 //! The examples of docs/DECISIONS.md are run, table by table, by what its first two columns are
 //! headed: a block's answer, its answer and what is left in a lent table or in both, an atom's
-//! position, the block's name to show, the number that the C door answers, and the lines that the
-//! program prints for a file.
+//! position, what is written of its table with another number 13, the block's name to show, the number
+//! that the C door answers, and the lines that the program prints for a file.
 //!
 //! Notation of a block or file, in backticks: bytes with the escapes \n \r \t \\ \xHH and \p for a
 //! vertical bar, and \{1-9:text} for a text once for each of these numbers, \i in it the number; or
@@ -9,7 +9,8 @@
 //! `@88+ text`, neon with text behind it.
 
 use galebonnet_tests::generate::neon::{followed, removed, replaced, NEON};
-use galebonnet_tests::independent::{check, name, position, read, read_table, walk_lines, Position};
+use galebonnet_tests::independent::{check, name, position, read, read_table, walk_lines, write, Position};
+use std::str::FromStr;
 
 /// What a table's examples are run against, by its header; the last column is the other reading.
 #[derive(Clone, Copy)]
@@ -18,16 +19,18 @@ enum Run {
     Lent,
     BothLent,
     Position,
+    Written,
     Name,
     Door,
     Walk,
 }
 
-const HEADERS: [([&str; 3], Run); 7] = [
+const HEADERS: [([&str; 3], Run); 8] = [
     (["block", "answer", "other reading"], Run::Answer),
     (["block and numbers lent", "answer and table", "other reading"], Run::Lent),
     (["block, numbers and floats lent", "answer and both tables", "other reading"], Run::BothLent),
     (["block and atom", "position", "other reading"], Run::Position),
+    (["block and number 13", "last two lines written, or refusal", "other reading"], Run::Written),
     (["block", "name to show, `?` the stand-in", "other reading"], Run::Name),
     (["block", "number at the C door", "other reading"], Run::Door),
     (["file", "walk prints", "other reading"], Run::Walk),
@@ -148,8 +151,26 @@ fn placed(block: &[u8], atom: usize) -> Result<String, String> {
     }
 }
 
+/// The last two lines that are written of an accepted block's table with another number 13, or the
+/// refusal number.
+fn rewritten(block: &[u8], number: i32) -> Result<String, String> {
+    let (mut table, mut buffer) = (vec![0; TABLE], vec![0; 32_768]);
+    let answer = read_table(block, &mut table);
+    if answer.number != 0 {
+        return Err(format!("refused {}@{}", answer.number, answer.place));
+    }
+    table[13] = number;
+    let written = write(&table, block, &mut buffer);
+    if written.number != 0 {
+        return Ok(written.number.to_string());
+    }
+    let form = String::from_utf8_lossy(&buffer[..written.count]).into_owned();
+    let lines: Vec<&str> = form.lines().collect();
+    Ok(lines[lines.len() - 2..].join("; "))
+}
+
 /// A cell's block and the number behind it.
-fn numbered(input: &str) -> Result<(&str, usize), String> {
+fn numbered<Number: FromStr>(input: &str) -> Result<(&str, Number), String> {
     let (block, number) = input.rsplit_once(", ").ok_or(format!("no number behind the block: {input}"))?;
     Ok((block, number.parse().map_err(|_| format!("no number: {number}"))?))
 }
@@ -175,6 +196,10 @@ fn answered(input: &str, run: Run) -> Result<String, String> {
         Run::Position => {
             let (block, atom) = numbered(input)?;
             placed(&meant(quoted(block)?)?, atom)?
+        }
+        Run::Written => {
+            let (block, number) = numbered(input)?;
+            rewritten(&meant(quoted(block)?)?, number)?
         }
         Run::Name => String::from_utf8_lossy(name(&meant(quoted(input)?)?, b"?")).replace('\n', "\\n"),
         Run::Door => check(&meant(quoted(input)?)?).to_string(),
@@ -255,13 +280,15 @@ fn the_notation_is_read() {
     }
 }
 
+/// How many faults are found in a table of one row.
+fn run(header: &str, row: &str) -> usize {
+    let (rows, faults) = run_page(&format!("text\n\n{header}\n|---|---|---|\n{row}\n\nmore\n"));
+    assert_eq!(rows, 1);
+    faults.len()
+}
+
 #[test]
 fn a_wrong_row_is_a_fault() {
-    let run = |header: &str, row: &str| {
-        let (rows, faults) = run_page(&format!("text\n\n{header}\n|---|---|---|\n{row}\n\nmore\n"));
-        assert_eq!(rows, 1);
-        faults.len()
-    };
     let block = "| block | answer | other reading |";
     assert_eq!(run(block, "| `@76: 2 Ne` | `11@76` | 12 |"), 0);
     assert_eq!(run(block, "| `@76: 2 Ne` | `12@76` | 12 |"), 1);
@@ -290,6 +317,15 @@ fn a_wrong_row_is_a_fault() {
     assert_eq!(run(lent, "| `@76: 2 Ne`, 3857 | `11@76 zeroed` | `11@76 untouched` |"), 0);
     assert_eq!(run(lent, "| `@76: 2 Ne`, 3855 | `11@76 zeroed` | 1 |"), 1);
     assert_eq!(run(lent, "| `@76: 1 Ne`, 3856 | `0@0 filled` | 1 |"), 0);
+}
+
+#[test]
+fn a_wrong_row_of_a_form_a_name_a_door_or_a_file_is_a_fault() {
+    let form = "| block and number 13 | last two lines written, or refusal | other reading |";
+    assert_eq!(run(form, "| `@76: 1 Ne`, 1 | `##STEREOMOLECULE= YES; ##END=` | `1 Ne; ##END=` |"), 0);
+    assert_eq!(run(form, "| `@76: 1 Ne`, 0 | `##STEREOMOLECULE= YES; ##END=` | `1 Ne; ##END=` |"), 1);
+    assert_eq!(run(form, "| `@76: 1 Ne`, -2147483648 | `21` | written |"), 0);
+    assert_eq!(run(form, "| `@76: 2 Ne`, 1 | `21` | written |"), 1);
     let shown = "| block | name to show, `?` the stand-in | other reading |";
     assert_eq!(run(shown, "| `##TITLE= a` | `a` | `?` |"), 0);
     assert_eq!(run(shown, "| `##TITLE=` | `a` | `?` |"), 1);

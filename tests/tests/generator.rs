@@ -3,6 +3,10 @@
 use galebonnet_tests::generate::coordinates::{
     has_coordinates, refused_by_coordinates, sound_coordinate_block,
 };
+use galebonnet_tests::generate::helical::{
+    has_helical, refused_by_helical, refused_by_number_13, sound_helical_block,
+};
+use galebonnet_tests::generate::tables::sound_table;
 use galebonnet_tests::generate::{self, Random};
 use galebonnet_tests::independent::{check, read, read_table, write};
 use std::collections::BTreeMap;
@@ -68,6 +72,63 @@ fn three_hundred_blocks_with_coordinates_have_every_refusal_of_theirs() {
 }
 
 #[test]
+fn a_tenth_to_a_sixth_of_what_is_sound_is_helical() {
+    let mut random = Random::new(9);
+    let blocks = (0..10_000).map(|_| generate::sound_block(&mut random));
+    let share = blocks.filter(|block| has_helical(block)).count();
+    assert!((1_000..=1_667).contains(&share), "{share} of 10,000 sound blocks");
+    let tables = (0..10_000).map(|_| sound_table(&mut random));
+    let share = tables.filter(|(table, _)| table[13] == 1).count();
+    assert!((1_000..=1_667).contains(&share), "{share} of 10,000 sound tables");
+    let blocks = (0..10_000).map(|_| generate::block(&mut random));
+    let share = blocks.filter(|block| has_helical(block)).count();
+    assert!((1_500..=2_500).contains(&share), "{share} of 10,000 blocks");
+}
+
+#[test]
+fn sound_helical_blocks_are_accepted_in_every_spelling() {
+    let mut random = Random::new(10);
+    let [mut below, mut beside_labels, mut with_coordinates] = [0; 3];
+    for _ in 0..10_000 {
+        let block = sound_helical_block(&mut random);
+        let mut table = vec![0; 3856];
+        assert_eq!(read_table(&block, &mut table).number, 0, "refused: {}", block.escape_ascii());
+        assert_eq!((table[4], table[5], table[13]), (0, 0, 1), "{}", block.escape_ascii());
+        let text = String::from_utf8_lossy(&block);
+        below += usize::from(text.lines().any(|line| line.trim_start().starts_with("YES")));
+        beside_labels += usize::from(text.contains("##STEREOCENTER=") && text.contains("##STEREOPAIR="));
+        with_coordinates += usize::from(has_coordinates(&block));
+    }
+    assert!(below > 4_000, "only {below} with the YES below the label line");
+    assert!(beside_labels > 200, "only {beside_labels} beside both labels of centres and pairs");
+    assert!(with_coordinates > 2_000, "only {with_coordinates} with coordinates");
+}
+
+#[test]
+fn three_hundred_helical_blocks_and_ninety_tables_have_every_refusal_of_theirs() {
+    for seed in 0..20 {
+        let mut random = Random::new(seed);
+        let mut counts: BTreeMap<&str, usize> = BTreeMap::new();
+        for _ in 0..300 {
+            let block = generate::helical_block(&mut random);
+            let answer = read_table(&block, &mut [0; 3856]);
+            if let Some(refusal) = refused_by_helical(&block, answer) {
+                *counts.entry(refusal).or_default() += 1;
+            }
+        }
+        for _ in 0..90 {
+            let case = generate::helical_table_case(&mut random);
+            if let Some(refusal) = refused_by_number_13(&case.table, &case.texts) {
+                *counts.entry(refusal).or_default() += 1;
+            }
+        }
+        let comes = |refusal: &&str| counts.get(refusal).is_some_and(|&count| count >= 5);
+        let all = ["6", "9 at END", "9 on a row", "13 at END", "21 by number 13"];
+        assert!(all.iter().all(comes), "seed {seed}: {counts:?}");
+    }
+}
+
+#[test]
 fn every_answer_of_the_writer_comes_often() {
     let mut random = Random::new(3);
     let mut counts: BTreeMap<u32, usize> = BTreeMap::new();
@@ -79,6 +140,15 @@ fn every_answer_of_the_writer_comes_often() {
     println!("writer's answers: {counts:?}");
     assert_eq!(counts.keys().copied().collect::<Vec<u32>>(), [0, 1, 21, 22, 23]);
     assert!(counts.values().all(|&count| count >= 150), "{counts:?}");
+    let mut counts: BTreeMap<u32, usize> = BTreeMap::new();
+    for _ in 0..3_000 {
+        let case = generate::helical_table_case(&mut random);
+        let written = write(&case.table, &case.texts, &mut vec![0; case.room]);
+        *counts.entry(written.number).or_default() += 1;
+    }
+    println!("writer's answers to tables with number 13: {counts:?}");
+    assert_eq!(counts.keys().copied().collect::<Vec<u32>>(), [0, 21, 22, 23]);
+    assert!(counts.values().all(|&count| count >= 100), "{counts:?}");
 }
 
 #[test]

@@ -5,7 +5,7 @@ use galebonnet_tests::independent::check;
 use std::collections::{BTreeMap, BTreeSet};
 
 /// Cases at a limit and one over it, each with its refusal number.
-const EXPECTED: [(&str, u64); 73] = [
+const EXPECTED: [(&str, u64); 93] = [
     ("256 atoms", 0),
     ("257 atoms", 14),
     ("512 bonds", 0),
@@ -79,6 +79,26 @@ const EXPECTED: [(&str, u64); 73] = [
     ("row `256 0 0 0` after 256 rows of coordinates", 13),
     ("END line with 41 and 42", 41),
     ("END line with 42 and 15", 15),
+    ("STEREOMOLECULE = `YES`", 0),
+    ("STEREOMOLECULE = `YESS`", 9),
+    ("STEREOMOLECULE = `YE`", 9),
+    ("STEREOMOLECULE = `yes`", 9),
+    ("STEREOMOLECULE behind `YES`", 0),
+    ("STEREOMOLECULE=` YES\\nYES`", 9),
+    ("STEREOMOLECULE=` YES\\n$$ YES`", 0),
+    ("label `stereo-molecule` with `NO`", 9),
+    ("label `STEREOMOLECULES` with `NO`", 0),
+    ("label `STEREOMOLECUL` with `NO`", 0),
+    ("label `XSTEREOMOLECULE` with `NO`", 0),
+    ("label `3TEREOMOLECULE` with `NO`", 0),
+    ("`##STEREOMOLECULE= YES\\n` before ATOMLIST", 6),
+    ("256 atoms and the YES", 0),
+    ("128 centres and the YES", 13),
+    ("128 pairs and the YES", 13),
+    ("129 centres and the YES", 14),
+    ("32768 bytes with the YES", 0),
+    ("32769 bytes with the YES", 2),
+    ("END line with YES beside both, 42, 15, a value", 9),
 ];
 
 /// The refusal numbers by the cases' names.

@@ -89,7 +89,7 @@ fn section_b_labels() {
         ("B8 origin", neon(27, b"##ORIGIN="), "0@0"),
         ("B8 owner", neon(39, b"##OWNER=\n\n\n"), "0@0"),
     ]);
-    let skipped = "DATE TIME STEREOMOLECULE MAX_RASTER XY_RASTER XYZ_SOURCE JCAMP-DX";
+    let skipped = "DATE TIME STEREOMOLECULES STEREOMOLECUL MAX_RASTER XY_RASTER XYZ_SOURCE JCAMP-DX";
     for label in skipped.split(' ') {
         let line = format!("##TITLE= a\n##{label}= x\n1 2 q\n##{label}=");
         assert_eq!(answer(&neon(0, line.as_bytes())), "0@0", "B7: {label}");
@@ -119,7 +119,7 @@ fn section_c_order() {
         ("C7 no atoms", NEON.replace("ATOMLIST=\n1 Ne", "CHARGE=\n+1").into_bytes(), "8@77"),
     ]);
     let known = "TITLE JCAMP-CS ORIGIN OWNER MOLFORM ATOMLIST BONDLIST CHARGE RADICAL STEREOCENTER \
-                 STEREOPAIR BLOCK_ID END";
+                 STEREOPAIR STEREOMOLECULE MAX_XYZ XYZ_FACTOR XYZ BLOCK_ID END";
     for label in known.split_whitespace() {
         assert_eq!(answer(&followed(format!("##{label}=\n").as_bytes())), "6@88", "C4: {label}");
     }

@@ -49,6 +49,20 @@ fn on_twenty_thousand_blocks_with_coordinates() {
 }
 
 #[test]
+fn on_twenty_thousand_blocks_with_stereomolecule() {
+    let mut random = Random::new(44);
+    let mut helical = 0;
+    for _ in 0..20_000 {
+        let block = generate::helical_block(&mut random);
+        same("generated with STEREOMOLECULE", &block, LONG);
+        let mut table = [0; 3856];
+        tuned::read(&block, &mut table, &mut [0.0; 1024]);
+        helical += table[13];
+    }
+    assert!(helical > 4_000, "only {helical} tables with number 13 set");
+}
+
+#[test]
 fn on_every_named_block() {
     for (name, block) in generate::limit_blocks() {
         same(&name, &block, LONG);

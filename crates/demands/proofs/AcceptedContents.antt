@@ -1,7 +1,7 @@
--- What each line contributes, by the record it stands in: an atom row, a row of a list, the formula's entries, the block id. All lines' contributions are the
--- block's rows, entries and ids as `Obeys` and `structureIn` say them of the records. Serves "accepted exactly when". Assumes nothing.
-use Prim.Native.Nat.{ℕ, _+_, _<_, _≤_}
-use mathlib.Core.Path.{_≡_, refl, sym, ap, _∙_, subst}
+-- What each line contributes, by the record it stands in: an atom row, a row of a list, the formula's entries, the block id, a part of the geometry, the YES. All
+-- lines' contributions are the block's rows, entries and ids as `Obeys` and `structureIn` say them of the records. Serves "accepted exactly when". Assumes nothing.
+use Prim.Native.Nat.{ℕ, _+_, _≤_, _<_}
+use mathlib.Core.Path.{_≡_, refl, sym, ap, _∙_}
 use mathlib.Core.Bool.{Bool, true, false, _||_}
 use mathlib.Core.List.{List, [], _∷_, _++_, map, map-append}
 use native.Mathlib.Omega.{arith}
@@ -11,81 +11,15 @@ use Rattle.lists.specs.Lists.{flat}
 use Rattle.lists.proofs.Bools.{torn, both-ways}
 use Rattle.lists.proofs.PartLaws.{flat-nil, flat-cons, flat-one, flat-append, flat-same}
 use Rattle.format.specs.Bytes.{Bytes, fields, strip}
-use Rattle.format.specs.Labels.{ListOf, Bonds, Charges, Radicals, Centres, Pairs, XyzOf, MaxXyz, XyzFactor, XyzRows, Holds, Text, Version, Formula, BlockId, Atoms, Rows, Xyz, End, Skipped}
+use Rattle.format.specs.Labels.{ListOf, Bonds, Charges, Radicals, Centres, Pairs, XyzOf, MaxXyz, XyzFactor, XyzRows, Holds, Text, Version, Formula, BlockId, Atoms, Rows, Xyz, Handedness, End, Skipped}
 use Rattle.format.specs.Rows.{Row, AtomRow, number, field, atomShape, rowShape}
 use Rattle.format.specs.Formula.{formulaShape}
 use Rattle.format.specs.Coordinates.{XyzRow, xyzShape, Factor, factor, factorShape}
 use Rattle.format.specs.Structure.{Entry}
 use Rattle.format.specs.Reading.{ordered, onlyField}
-use Rattle.demands.specs.Accepted.{Told, Value, Further, place, part, kind, onlyIf, valueIn, lineIn, listed, rowOn, rowsBy, entriesAs, toldOf, atomRows, listRows, molforms, firstOr, xyzRows, greatestIn, factorIn}
+use Rattle.demands.specs.Accepted.{Told, Value, Further, place, part, kind, onlyIf, valueIn, lineIn, listed, rowOn, rowsBy, entriesAs, Yes, yesShape, toldOf, atomRows, listRows, molforms, firstOr, xyzRows, greatestIn, factorIn, yesRows}
 use Rattle.demands.specs.ReadAs.{idsIn}
-
--- BY WHAT A RECORD HOLDS, with what all the others have: the formula, the id, the atoms, a list; or a part of the geometry
-module _ {A : Type 0} where
-  abbrev pub byHolds : (rest formula id atoms : A) → (ListOf → A) → Holds → A
-  byHolds z f n a r (Text i) = z
-  byHolds z f n a r Version = z
-  byHolds z f n a r Formula = f
-  byHolds z f n a r BlockId = n
-  byHolds z f n a r Atoms = a
-  byHolds z f n a r (Rows l) = r l
-  byHolds z f n a r (Xyz x) = z
-  byHolds z f n a r End = z
-  byHolds z f n a r Skipped = z
-
-  abbrev pub byGeometry : (rest : A) → (XyzOf → A) → Holds → A
-  byGeometry z f (Text i) = z
-  byGeometry z f Version = z
-  byGeometry z f Formula = z
-  byGeometry z f BlockId = z
-  byGeometry z f Atoms = z
-  byGeometry z f (Rows l) = z
-  byGeometry z f (Xyz x) = f x
-  byGeometry z f End = z
-  byGeometry z f Skipped = z
-
-  abbrev pub byXyz : (greatest factor rows : A) → XyzOf → A
-  byXyz m f r MaxXyz = m
-  byXyz m f r XyzFactor = f
-  byXyz m f r XyzRows = r
-
-  -- what each of them has, that of any record has
-  module _ (P : A → Type 0) where
-    pub holds-each : (z f n a : A) (r : ListOf → A) → P z → P f → P n → P a → ((l : ListOf) → P (r l)) → (h : Holds) → P (byHolds z f n a r h)
-    holds-each z f n a r pz pf pn pa pr (Text i) = pz
-    holds-each z f n a r pz pf pn pa pr Version = pz
-    holds-each z f n a r pz pf pn pa pr Formula = pf
-    holds-each z f n a r pz pf pn pa pr BlockId = pn
-    holds-each z f n a r pz pf pn pa pr Atoms = pa
-    holds-each z f n a r pz pf pn pa pr (Rows l) = pr l
-    holds-each z f n a r pz pf pn pa pr (Xyz x) = pz
-    holds-each z f n a r pz pf pn pa pr End = pz
-    holds-each z f n a r pz pf pn pa pr Skipped = pz
-
--- a record is one of the geometry's three, or it has what all the others have
-geometry-view : (P : Holds → Type 0) → ((h : Holds) → ((A : Type 0) (z : A) (f : XyzOf → A) → byGeometry z f h ≡ z) → P h) → ((x : XyzOf) → P (Xyz x)) → (h : Holds) → P h
-geometry-view P rest own (Text i) = rest (Text i) (λ A z f. refl)
-geometry-view P rest own Version = rest Version (λ A z f. refl)
-geometry-view P rest own Formula = rest Formula (λ A z f. refl)
-geometry-view P rest own BlockId = rest BlockId (λ A z f. refl)
-geometry-view P rest own Atoms = rest Atoms (λ A z f. refl)
-geometry-view P rest own (Rows l) = rest (Rows l) (λ A z f. refl)
-geometry-view P rest own (Xyz x) = own x
-geometry-view P rest own End = rest End (λ A z f. refl)
-geometry-view P rest own Skipped = rest Skipped (λ A z f. refl)
-
-module _ {A : Type 0} (z : A) (f : XyzOf → A) where
-  pub geometry-each : (P : A → Type 0) → P z → ((x : XyzOf) → P (f x)) → (h : Holds) → P (byGeometry z f h)
-  geometry-each P pz pf = geometry-view (λ h. P (byGeometry z f h)) (λ h q. subst P (sym (q A z f)) pz) pf
-
-  pub geometry-same : (y : A) (g : XyzOf → A) → z ≡ y → ((x : XyzOf) → f x ≡ g x) → (h : Holds) → byGeometry z f h ≡ byGeometry y g h
-  geometry-same y g e p = geometry-view (λ h. byGeometry z f h ≡ byGeometry y g h) (λ h q. q A z f ∙ e ∙ sym (q A y g)) p
-
-  pub geometry-map : {B : Type 0} (m : A → B) (h : Holds) → m (byGeometry z f h) ≡ byGeometry (m z) (λ x. m (f x)) h
-  geometry-map {B = B} m = geometry-view (λ h. m (byGeometry z f h) ≡ byGeometry (m z) (λ x. m (f x)) h) (λ h q. ap m (q A z f) ∙ sym (q B (m z) (λ x. m (f x)))) (λ x. refl)
-
-  pub geometry-quiet : (held : XyzOf → Bool) → ((x : XyzOf) → held x ≡ false → f x ≡ z) → (h : Holds) → byGeometry false held h ≡ false → byGeometry z f h ≡ z
-  geometry-quiet held p = geometry-view (λ h. byGeometry false held h ≡ false → byGeometry z f h ≡ z) (λ h q e. q A z f) p
+use Rattle.demands.proofs.AcceptedHolds.{byHolds, byGeometry, byYes, byXyz}
 
 -- WHAT A LINE CONTRIBUTES
 abbrev pub atomIn : Holds → Bytes → List AtomRow
@@ -140,6 +74,13 @@ abbrev pub xyzOn : Told → List XyzRow
 xyzOn (Value h v) = xyzIn h v
 xyzOn (Further h l) = xyzIn h l
 
+abbrev pub yesIn : Holds → Bytes → List Yes
+yesIn h l = byYes [] (rowOn yesShape (fields (strip l))) h
+
+abbrev pub yesOn : Told → List Yes
+yesOn (Value h v) = yesIn h v
+yesOn (Further h l) = yesIn h l
+
 -- which records give a formula, an id, atoms, MAX_XYZ, the factor; which stand behind the atoms
 abbrev pub formulaHeld : Holds → Bool
 formulaHeld h = byHolds false true false false (λ l. false) h
@@ -155,6 +96,9 @@ greatestHeld h = byGeometry false (byXyz true false false) h
 
 abbrev pub factorHeld : Holds → Bool
 factorHeld h = byGeometry false (byXyz false true false) h
+
+abbrev pub yesHeld : Holds → Bool
+yesHeld h = byYes false true h
 
 abbrev pub behindAtoms : Holds → Bool
 behindAtoms h = byHolds false false false false (λ l. true) h || byGeometry false (λ x. true) h
@@ -243,6 +187,7 @@ atom-line BlockId l = only-false _ l false refl
 atom-line Atoms l = only-true _ l
 atom-line (Rows m) l = only-false _ l (eqb 4 (7 + place m)) (list-kind m 4 (omega arith))
 atom-line (Xyz x) l = only-false _ l (eqb 4 (12 + part x)) (part-kind x 4 (omega arith))
+atom-line Handedness l = only-false _ l false refl
 atom-line End l = only-false _ l false refl
 atom-line Skipped l = only-false _ l false refl
 
@@ -267,6 +212,7 @@ module _ (l : ListOf) where
       by true e = ap (map ordered) (only-true _ b) ∙ ap (λ (n : ListOf). map ordered (rowOn (rowShape n) (fields (strip b)))) (same-list l m e)
       by false e = ap (map ordered) (only-false _ b false refl)
   row-line (Xyz x) b = ap (map ordered) (only-false _ b (eqb (7 + place l) (12 + part x)) (part-kind x (7 + place l) (few-lists l)))
+  row-line Handedness b = ap (map ordered) (only-false _ b (eqb (7 + place l) 15) (ne-eqb (7 + place l) 15 (λ e. omega (arith, few-lists l, e))))
   row-line End b = ap (map ordered) (only-false _ b (eqb (7 + place l) 5) (kind-list l 5 (omega arith)))
   row-line Skipped b = ap (map ordered) (only-false _ b (eqb (7 + place l) 6) (kind-list l 6 (omega arith)))
 
@@ -287,6 +233,7 @@ formula-kind BlockId = refl
 formula-kind Atoms = refl
 formula-kind (Rows m) = list-kind m 2 (omega arith)
 formula-kind (Xyz x) = part-kind x 2 (omega arith)
+formula-kind Handedness = refl
 formula-kind End = refl
 formula-kind Skipped = refl
 
@@ -298,6 +245,7 @@ entries-line k BlockId v = only-false _ v false refl
 entries-line k Atoms v = only-false _ v false refl
 entries-line k (Rows m) v = only-false _ v (eqb 2 (7 + place m)) (list-kind m 2 (omega arith))
 entries-line k (Xyz x) v = only-false _ v (eqb 2 (12 + part x)) (part-kind x 2 (omega arith))
+entries-line k Handedness v = only-false _ v false refl
 entries-line k End v = only-false _ v false refl
 entries-line k Skipped v = only-false _ v false refl
 
@@ -321,6 +269,7 @@ id-line BlockId v = only-true _ v
 id-line Atoms v = only-false _ v false refl
 id-line (Rows m) v = only-false _ v (eqb 3 (7 + place m)) (list-kind m 3 (omega arith))
 id-line (Xyz x) v = only-false _ v (eqb 3 (12 + part x)) (part-kind x 3 (omega arith))
+id-line Handedness v = only-false _ v false refl
 id-line End v = only-false _ v false refl
 id-line Skipped v = only-false _ v false refl
 
@@ -332,7 +281,7 @@ pub ids-are : (b : Bytes) → idsIn b ≡ flat idOn (toldOf b)
 ids-are b = flat-flat _ (valueIn BlockId) (toldOf b) ∙ flat-same _ idOn id-told (toldOf b)
 
 -- THE GEOMETRY: MAX_XYZ, the factor, the rows of XYZ. A record of another kind gives none, and of this kind the three are told apart by their part
-module _ {A : Type 0} (n : ℕ) (placing : 12 ≤ n) (f : Bytes → List A) where
+module _ {A : Type 0} (n : ℕ) (placing : 12 ≤ n) (below : n < 15) (f : Bytes → List A) where
   list-other : (m : ListOf) → eqb n (7 + place m) ≡ false
   list-other m = ne-eqb n (7 + place m) (λ e. omega (arith, placing, few-lists m, e))
 
@@ -348,11 +297,12 @@ module _ {A : Type 0} (n : ℕ) (placing : 12 ≤ n) (f : Bytes → List A) wher
   geometry-line g own Atoms v = only-false f v (eqb n 4) (other-kind 4 (omega arith))
   geometry-line g own (Rows m) v = only-false f v (eqb n (7 + place m)) (list-other m)
   geometry-line g own (Xyz x) v = own x v
+  geometry-line g own Handedness v = only-false f v (eqb n 15) (ne-eqb n 15 (λ e. omega (arith, below, e)))
   geometry-line g own End v = only-false f v (eqb n 5) (other-kind 5 (omega arith))
   geometry-line g own Skipped v = only-false f v (eqb n 6) (other-kind 6 (omega arith))
 
 greatest-line : (h : Holds) (v : Bytes) → flat (λ w. listed (number (onlyField (fields (strip w))))) (onlyIf (eqb 12 (kind h)) v) ≡ greatestBy h v
-greatest-line = geometry-line 12 (omega arith) _ (λ x v. byXyz (listed (number (onlyField (fields (strip v))))) [] [] x) own
+greatest-line = geometry-line 12 (omega arith) (omega arith) _ (λ x v. byXyz (listed (number (onlyField (fields (strip v))))) [] [] x) own
   where
     own : (x : XyzOf) (v : Bytes) → flat (λ w. listed (number (onlyField (fields (strip w))))) (onlyIf (eqb 12 (12 + part x)) v) ≡ byXyz (listed (number (onlyField (fields (strip v))))) [] [] x
     own MaxXyz v = only-true _ v
@@ -360,7 +310,7 @@ greatest-line = geometry-line 12 (omega arith) _ (λ x v. byXyz (listed (number 
     own XyzRows v = only-false _ v false refl
 
 factor-line : (h : Holds) (v : Bytes) → flat (λ w. listed (factorShape (onlyField (fields (strip w))))) (onlyIf (eqb 13 (kind h)) v) ≡ factorBy h v
-factor-line = geometry-line 13 (omega arith) _ (λ x v. byXyz [] (listed (factorShape (onlyField (fields (strip v))))) [] x) own
+factor-line = geometry-line 13 (omega arith) (omega arith) _ (λ x v. byXyz [] (listed (factorShape (onlyField (fields (strip v))))) [] x) own
   where
     own : (x : XyzOf) (v : Bytes) → flat (λ w. listed (factorShape (onlyField (fields (strip w))))) (onlyIf (eqb 13 (12 + part x)) v) ≡ byXyz [] (listed (factorShape (onlyField (fields (strip v))))) [] x
     own MaxXyz v = only-false _ v false refl
@@ -368,7 +318,7 @@ factor-line = geometry-line 13 (omega arith) _ (λ x v. byXyz [] (listed (factor
     own XyzRows v = only-false _ v false refl
 
 xyz-line : (h : Holds) (v : Bytes) → rowsBy xyzShape (onlyIf (eqb 14 (kind h)) v) ≡ xyzIn h v
-xyz-line = geometry-line 14 (omega arith) _ (λ x v. byXyz [] [] (rowOn xyzShape (fields (strip v))) x) own
+xyz-line = geometry-line 14 (omega arith) (omega arith) _ (λ x v. byXyz [] [] (rowOn xyzShape (fields (strip v))) x) own
   where
     own : (x : XyzOf) (v : Bytes) → rowsBy xyzShape (onlyIf (eqb 14 (12 + part x)) v) ≡ byXyz [] [] (rowOn xyzShape (fields (strip v))) x
     own MaxXyz v = only-false _ v false refl
@@ -395,3 +345,25 @@ factor-are b = ap (firstOr (factor 0 0)) (flat-flat _ (valueIn (Xyz XyzFactor)) 
 
 pub xyz-are : (b : Bytes) → xyzRows b ≡ flat xyzOn (toldOf b)
 xyz-are b = flat-flat _ (lineIn (Xyz XyzRows)) (toldOf b) ∙ flat-same _ xyzOn xyz-told (toldOf b)
+
+-- THE YES
+yes-line : (h : Holds) (l : Bytes) → rowsBy yesShape (onlyIf (eqb 15 (kind h)) l) ≡ yesIn h l
+yes-line (Text i) l = only-false _ l false refl
+yes-line Version l = only-false _ l false refl
+yes-line Formula l = only-false _ l false refl
+yes-line BlockId l = only-false _ l false refl
+yes-line Atoms l = only-false _ l false refl
+yes-line (Rows m) l = only-false _ l (eqb 15 (7 + place m)) (ne-eqb 15 (7 + place m) (λ e. omega (arith, few-lists m, e)))
+yes-line (Xyz MaxXyz) l = only-false _ l false refl
+yes-line (Xyz XyzFactor) l = only-false _ l false refl
+yes-line (Xyz XyzRows) l = only-false _ l false refl
+yes-line Handedness l = only-true _ l
+yes-line End l = only-false _ l false refl
+yes-line Skipped l = only-false _ l false refl
+
+yes-told : (t : Told) → rowsBy yesShape (lineIn Handedness t) ≡ yesOn t
+yes-told (Value h v) = yes-line h v
+yes-told (Further h l) = yes-line h l
+
+pub yes-are : (b : Bytes) → yesRows b ≡ flat yesOn (toldOf b)
+yes-are b = flat-flat _ (lineIn Handedness) (toldOf b) ∙ flat-same _ yesOn yes-told (toldOf b)

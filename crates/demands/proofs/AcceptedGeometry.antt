@@ -4,7 +4,7 @@ use Prim.Native.Nat.{ℕ, _≤_}
 use mathlib.Core.Path.{_≡_, refl, sym, ap, _∙_}
 use mathlib.Core.Bool.{Bool, true, false, not, _&&_, _||_, or-false}
 use mathlib.Core.Option.{Option, none, some}
-use mathlib.Core.List.{List, [], _∷_, _++_, reverse, reverseAux}
+use mathlib.Core.List.{List, [], _∷_, _++_, reverse, reverseAux, map}
 use native.Mathlib.Omega.{arith}
 use lib.ListN.{length}
 use lib.Dec.{eqb, leb}
@@ -13,18 +13,66 @@ use Rattle.lists.proofs.Bools.{torn, or-parts, or-exchange}
 use Rattle.lists.proofs.ListLaws.{all-nil, all-one, any-nil, any-cons}
 use Rattle.lists.proofs.PartLaws.{flat-nil, flat-one}
 use Rattle.format.specs.Bytes.{Bytes, within, fields, strip}
-use Rattle.format.specs.Labels.{XyzOf, MaxXyz, XyzFactor, XyzRows, Holds, Label, label, known, Line, Plain, Unparted, Labelled, lineOf}
-use Rattle.format.specs.Rows.{number}
+use Rattle.format.specs.Labels.{ListOf, XyzOf, MaxXyz, XyzFactor, XyzRows, Holds, Text, Version, Formula, BlockId, Atoms, Rows, Xyz, Handedness, End, Skipped, Label, label, known, Line, Plain, Unparted, Labelled, lineOf}
+use Rattle.format.specs.Rows.{number, Row, AtomRow, field, atomShape, rowShape}
+use Rattle.format.specs.Formula.{Counted, formulaShape}
 use Rattle.format.specs.Coordinates.{XyzRow, xyzShape, Factor, factor, factorShape, Geometry, exceeds, geometry}
-use Rattle.format.specs.Reading.{State, atomCount, opened, onlyField}
-use Rattle.demands.specs.Accepted.{Told, Value, Further, toldAs, told, listed, rowOn, firstOr}
-use Rattle.demands.proofs.AcceptedContents.{byHolds, byGeometry, byXyz, geometry-each, geometry-same, geometry-map, geometry-quiet, greatestOn, factorOn, xyzIn, xyzOn, greatestHeld, factorHeld, behindAtoms}
-use Rattle.demands.proofs.AcceptedSteps.{addGreatest, addFactor, addXyz, addAll, xyzAfter, xyzAfterFurther, afterValue, afterFurther, afterAs, after, afters, along, rowPasses, xyzPasses, onLine, xyzListedAt, xyzAboveAt}
-use Rattle.demands.proofs.AcceptedState.{value-geometry, further-geometry}
-use Rattle.demands.proofs.AcceptedLines.{label-passed, placed, eachApart, apart-pairs}
+use Rattle.format.specs.Reading.{State, atomCount, opened, onlyField, ordered}
+use Rattle.demands.specs.Accepted.{Told, Value, Further, toldAs, told, listed, rowOn, Yes, yesShape, firstOr}
+use Rattle.demands.proofs.AcceptedHolds.{byHolds, byGeometry, byXyz, geometry-each, geometry-same, geometry-map, geometry-quiet}
+use Rattle.demands.proofs.AcceptedContents.{greatestOn, factorOn, xyzIn, xyzOn, greatestHeld, factorHeld, behindAtoms}
+use Rattle.demands.proofs.AcceptedAfter.{addAll, addAtom, addRow, addFormula, addId, addGreatest, addFactor, addXyz, xyzAfter, xyzAfterFurther, addYes, afterValue, afterFurther, afterAs, after, afters}
+use Rattle.demands.proofs.AcceptedSteps.{rowPasses, xyzPasses, onLine, xyzListedAt, xyzAboveAt, along}
+use Rattle.demands.proofs.AcceptedState.{all-same, row-same}
+use Rattle.demands.proofs.AcceptedLines.{label-passed, eachApart, apart-pairs, placed}
 use Rattle.demands.proofs.AcceptedRows.{few-on, few-told, row-all, told-nil, told-after, along-same}
 use Rattle.demands.proofs.AcceptedOrder.{Follows, given-listed}
 use Rattle.demands.proofs.AcceptedOnce.{once-is}
+
+-- THE GEOMETRY, which its three records alone give
+module _ (k : ℕ) where
+  formula-geometry : (st : State) (o : Option (List Counted)) → addFormula k st o .geometry ≡ st .geometry
+  formula-geometry st none = refl
+  formula-geometry st (some cs) = refl
+
+  id-geometry : (st : State) (o : Option ℕ) → addId st o .geometry ≡ st .geometry
+  id-geometry st none = refl
+  id-geometry st (some n) = refl
+
+  atoms-geometry : (st : State) (rs : List AtomRow) → addAll (addAtom k) st rs .geometry ≡ st .geometry
+  atoms-geometry st rs = all-same (λ (s : State). s .geometry) (addAtom k) (λ s r. refl) st rs
+
+  list-geometry : (m : ListOf) (st : State) (rs : List Row) → addAll (addRow m) st rs .geometry ≡ st .geometry
+  list-geometry m st rs = all-same (λ (s : State). s .geometry) (addRow m) (row-same (λ (s : State). s .geometry) m (λ s qs. refl)) st rs
+
+  yes-geometry : (st : State) (ys : List Yes) → addAll addYes st ys .geometry ≡ st .geometry
+  yes-geometry st ys = all-same (λ (s : State). s .geometry) addYes (λ s y. refl) st ys
+
+  -- any other record leaves it, so that what is said of it after a line is said by the three
+  module _ {B : Type 0} (g : Geometry → B) where
+    value-geometry : (h : Holds) (st : State) (from : ℕ) (v : Bytes) → g (afterValue k h st from v .geometry) ≡ byGeometry (g (st .geometry)) (λ x. g (xyzAfter x st (fields (strip v)) .geometry)) h
+    value-geometry (Text i) st from v = refl
+    value-geometry Version st from v = refl
+    value-geometry Formula st from v = ap g (formula-geometry st (formulaShape (strip v)))
+    value-geometry BlockId st from v = ap g (id-geometry st (number (field 0 (fields (strip v)))))
+    value-geometry Atoms st from v = ap g (atoms-geometry st (rowOn atomShape (fields (strip v))))
+    value-geometry (Rows m) st from v = ap g (list-geometry m st (map ordered (rowOn (rowShape m) (fields (strip v)))))
+    value-geometry (Xyz x) st from v = refl
+    value-geometry Handedness st from v = ap g (yes-geometry st (rowOn yesShape (fields (strip v))))
+    value-geometry End st from v = refl
+    value-geometry Skipped st from v = refl
+
+    further-geometry : (h : Holds) (st : State) (l : Bytes) → g (afterFurther k h st l .geometry) ≡ byGeometry (g (st .geometry)) (λ x. g (xyzAfterFurther x st (fields (strip l)) .geometry)) h
+    further-geometry (Text i) st l = refl
+    further-geometry Version st l = refl
+    further-geometry Formula st l = refl
+    further-geometry BlockId st l = refl
+    further-geometry Atoms st l = ap g (atoms-geometry st (rowOn atomShape (fields (strip l))))
+    further-geometry (Rows m) st l = ap g (list-geometry m st (map ordered (rowOn (rowShape m) (fields (strip l)))))
+    further-geometry (Xyz x) st l = refl
+    further-geometry Handedness st l = ap g (yes-geometry st (rowOn yesShape (fields (strip l))))
+    further-geometry End st l = refl
+    further-geometry Skipped st l = refl
 
 -- A ROW OF XYZ ON A LINE
 xyz-none : (h : Holds) (b : Bytes) → behindAtoms h ≡ false → xyzIn h b ≡ []

@@ -16,7 +16,8 @@ use Rattle.format.specs.Labels.{Holds, Skipped, Label, label, known, normal, mi
 use Rattle.format.specs.Reading.{State, noted, over, start}
 use Rattle.format.proofs.AcceptedLaws.{lookup-passes}
 use Rattle.demands.specs.Accepted.{Told, Value, Further, toldAs, runsOn, told, behindEnd, labelOn, labels, outOfOrder, furtherRule}
-use Rattle.demands.proofs.AcceptedSteps.{after, along, valueTest, onLine, titledAt, placedAt, closedAt, blank-plain}
+use Rattle.demands.proofs.AcceptedAfter.{after}
+use Rattle.demands.proofs.AcceptedSteps.{along, valueTest, onLine, titledAt, placedAt, closedAt, blank-plain}
 use Rattle.demands.proofs.AcceptedState.{after-running, after-seen}
 
 -- THE LABEL ON A LINE is one of the known or that of the skipped: what they all pass it passes

@@ -16,7 +16,8 @@ use Rattle.format.specs.Reading.{State, past, opened}
 use Rattle.demands.specs.Accepted.{Told, Value, Further, toldAs, told, labelOn, kind, onlyIf, valueIn}
 use Rattle.demands.specs.ReadAs.{idAs}
 use Rattle.demands.proofs.AcceptedContents.{formulaHeld, formula-kind, idHeld, entriesOn, idOn}
-use Rattle.demands.proofs.AcceptedSteps.{afterValue, afterFurther, afterAs, after, afters, along, placedAt}
+use Rattle.demands.proofs.AcceptedAfter.{afterValue, afterFurther, afterAs, after, afters}
+use Rattle.demands.proofs.AcceptedSteps.{along, placedAt}
 use Rattle.demands.proofs.AcceptedState.{value-formula, value-entries, further-formula, value-quiet-id, value-id, further-id}
 use Rattle.demands.proofs.AcceptedLines.{label-passed, placed}
 use Rattle.demands.proofs.AcceptedOrder.{codeSeen, code-misplaced, noted-some, seen-later, seen-now}

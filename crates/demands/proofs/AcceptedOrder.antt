@@ -14,12 +14,13 @@ use Rattle.lists.proofs.Bools.{torn, never, always, and-parts, and-both, or-par
 use Rattle.lists.proofs.ListLaws.{all-nil, all-append, all-parts, any-nil, any-one, any-append, any-imply}
 use Rattle.lists.proofs.PartLaws.{flat-nil, flat-one, flat-cons}
 use Rattle.format.specs.Bytes.{Bytes, within, gap}
-use Rattle.format.specs.Labels.{ListOf, Holds, Text, Version, Formula, BlockId, Atoms, Rows, Xyz, End, Skipped, Label, label, known, misplaced, Line, Plain, Unparted, Labelled, lineOf, hasCode, endLine}
+use Rattle.format.specs.Labels.{ListOf, Holds, Text, Version, Formula, BlockId, Atoms, Rows, Xyz, Handedness, End, Skipped, Label, label, known, misplaced, Line, Plain, Unparted, Labelled, lineOf, hasCode, endLine}
 use Rattle.format.specs.Rows.{Row, AtomRow}
 use Rattle.format.specs.Reading.{State, past, opened, over, atomCount}
 use Rattle.demands.specs.Accepted.{Told, Value, Further, toldAs, runsOn, told, labelOn, labels}
 use Rattle.demands.proofs.AcceptedContents.{atomsHeld, behindAtoms, atomIn, atomOn, rowIn, rowOf}
-use Rattle.demands.proofs.AcceptedSteps.{afterValue, afterFurther, afterAs, after, afters, along, placedAt, closedAt, complete, endAt, blank-plain}
+use Rattle.demands.proofs.AcceptedAfter.{afterValue, afterFurther, afterAs, after, afters}
+use Rattle.demands.proofs.AcceptedSteps.{along, placedAt, closedAt, complete, endAt, blank-plain}
 use Rattle.demands.proofs.AcceptedState.{after-running, after-seen}
 use Rattle.demands.proofs.AcceptedLines.{label-passed, placed, over-after, closed-behind, over-label}
 use Rattle.demands.proofs.AcceptedRows.{told-nil, told-after, count-after, rowTest}
@@ -33,6 +34,7 @@ atoms-none BlockId b e = refl
 atoms-none Atoms b e = torn true refl e
 atoms-none (Rows l) b e = refl
 atoms-none (Xyz x) b e = refl
+atoms-none Handedness b e = refl
 atoms-none End b e = refl
 atoms-none Skipped b e = refl
 
@@ -44,6 +46,7 @@ rows-none l BlockId b e = refl
 rows-none l Atoms b e = refl
 rows-none l (Rows m) b e = torn true refl e
 rows-none l (Xyz x) b e = refl
+rows-none l Handedness b e = refl
 rows-none l End b e = refl
 rows-none l Skipped b e = refl
 
@@ -55,6 +58,7 @@ rows-no-atoms BlockId e = refl
 rows-no-atoms Atoms e = torn false e refl
 rows-no-atoms (Rows l) e = refl
 rows-no-atoms (Xyz x) e = refl
+rows-no-atoms Handedness e = refl
 rows-no-atoms End e = refl
 rows-no-atoms Skipped e = refl
 
@@ -221,6 +225,7 @@ module _ (k : ℕ) where
   over-further Atoms st l o = torn false o refl
   over-further (Rows m) st l o = torn false o refl
   over-further (Xyz x) st l o = torn false o refl
+  over-further Handedness st l o = torn false o refl
   over-further End st l o = refl
   over-further Skipped st l o = torn false o refl
 
@@ -232,6 +237,7 @@ module _ (k : ℕ) where
   over-value Atoms st from v o = torn false o refl
   over-value (Rows m) st from v o = torn false o refl
   over-value (Xyz x) st from v o = torn false o refl
+  over-value Handedness st from v o = torn false o refl
   over-value End st from v o = refl
   over-value Skipped st from v o = torn false o refl
 

@@ -17,14 +17,16 @@ use Rattle.lists.proofs.ListLaws.{all-nil, all-one, all-same}
 use Rattle.lists.proofs.PartLaws.{flat-nil, flat-one, flat-append, all-map}
 use Rattle.lists.proofs.FoldLaws.{kept-nil, kept-again, kept-new, take-nil, take-bad, take-again, take-new}
 use Rattle.format.specs.Bytes.{Bytes, fields, strip}
-use Rattle.format.specs.Labels.{ListOf, Holds, Text, Version, Formula, BlockId, Atoms, Rows, Xyz, End, Skipped, Line, Plain, Unparted, Labelled, lineOf}
+use Rattle.format.specs.Labels.{ListOf, Holds, Text, Version, Formula, BlockId, Atoms, Rows, Xyz, Handedness, End, Skipped, Line, Plain, Unparted, Labelled, lineOf}
 use Rattle.format.specs.Rows.{Row, AtomRow, atomShape, rowShape}
 use Rattle.format.specs.Structure.{Atom, rowsOf, most, meets, clash}
 use Rattle.format.specs.Reading.{State, atomCount, ordered}
 use Rattle.format.proofs.OrderLaws.{rows-accept}
 use Rattle.demands.specs.Accepted.{Told, Value, Further, toldAs, runsOn, told, listed, rowOn, numbered, atomOf}
-use Rattle.demands.proofs.AcceptedContents.{holds-each, same-list, list-same, atomIn, atomOn, sameList, rowIn, rowOf}
-use Rattle.demands.proofs.AcceptedSteps.{after, afters, along, passing, rowPasses, atomPasses, listPasses, onLine, nextAtom, roomAt}
+use Rattle.demands.proofs.AcceptedHolds.{holds-each}
+use Rattle.demands.proofs.AcceptedContents.{same-list, list-same, atomIn, atomOn, sameList, rowIn, rowOf}
+use Rattle.demands.proofs.AcceptedAfter.{after, afters}
+use Rattle.demands.proofs.AcceptedSteps.{along, passing, rowPasses, atomPasses, listPasses, onLine, nextAtom, roomAt}
 use Rattle.demands.proofs.AcceptedState.{after-running, after-atoms, after-rows}
 
 -- ONE LINE HAS AT MOST ONE ROW
@@ -78,6 +80,7 @@ atom-all test BlockId l = sym (all-nil test)
 atom-all test Atoms l = row-all atomShape test (fields (strip l))
 atom-all test (Rows m) l = sym (all-nil test)
 atom-all test (Xyz x) l = sym (all-nil test)
+atom-all test Handedness l = sym (all-nil test)
 atom-all test End l = sym (all-nil test)
 atom-all test Skipped l = sym (all-nil test)
 
@@ -195,6 +198,7 @@ module _ (test own : ListOf → Row → Bool) (order : (l : ListOf) (r : Row) �
       by true f = ap (λ (n : ListOf). all (own n) (map ordered (rowOn (rowShape m) (fields (strip b))))) (same-list l m f) ∙ sym (rows-all m (fields (strip b))) ∙ e
       by false f = all-nil (own l)
   list-each l (Xyz x) b e = all-nil (own l)
+  list-each l Handedness b e = all-nil (own l)
   list-each l End b e = all-nil (own l)
   list-each l Skipped b e = all-nil (own l)
 
@@ -206,6 +210,7 @@ module _ (test own : ListOf → Row → Bool) (order : (l : ListOf) (r : Row) �
   list-every Atoms b f = refl
   list-every (Rows m) b f = rows-all m (fields (strip b)) ∙ ap (all (own m)) (sym (row-here m b)) ∙ f m
   list-every (Xyz x) b f = refl
+  list-every Handedness b f = refl
   list-every End b f = refl
   list-every Skipped b f = refl
 
@@ -292,7 +297,7 @@ module _ (k : ℕ) (l : ListOf) where
       ∙ ap (λ (t : Bool). not (t || pairs (clash l) (flat (rowOf l) (told (st .running) ls)))) (nothing (flat (rowOf l) (told (st .running) ls)))
 
   -- THE LIMIT, repeats not counted
-  kept-more : (rows xs : List Row) → length rows ≤ length (kept (meets l) rows xs)
+  pub kept-more : (rows xs : List Row) → length rows ≤ length (kept (meets l) rows xs)
   kept-more rows [] = omega (arith, ap length (kept-nil (meets l) rows))
   kept-more rows (x ∷ xs) = by (any (meets l x) rows) refl (kept-more rows xs) (kept-more (x ∷ rows) xs)
     where

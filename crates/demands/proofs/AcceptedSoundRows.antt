@@ -9,28 +9,29 @@ use native.Mathlib.Omega.{arith}
 use lib.ListN.{length, length-map}
 use lib.Dec.{eqb, ltb, leb}
 use borrow.Author.Tests.{eq-eqb, ne-eqb, lt-ltb, le-ltb, le-leb, not-true}
-use Rattle.lists.specs.Lists.{all, pairs}
+use Rattle.lists.specs.Lists.{all, pairs, isNil}
 use Rattle.lists.specs.Order.{ascends, level}
 use Rattle.lists.specs.Folding.{kept}
 use Rattle.lists.proofs.Bools.{torn, and-parts, and-both, not-of-false}
-use Rattle.lists.proofs.ListLaws.{all-nil, all-one, all-parts, all-both, all-imply, all-and}
+use Rattle.lists.proofs.ListLaws.{all-nil, all-one, all-parts, all-both, all-imply, all-and, same-none}
 use Rattle.lists.proofs.PartLaws.{all-map, all-flat}
 use Rattle.lists.proofs.PairLaws.{pairs-same}
 use Rattle.lists.proofs.LexLaws.{Sides, less, equal, greater, sides, ltb-strict}
 use Rattle.lists.proofs.SortLaws.{sort-length, sort-all, sort-pairs, sort-ascends}
 use Rattle.lists.proofs.FoldLaws.{kept-all, kept-apart}
-use Rattle.format.specs.Bytes.{Bytes, within, fields, strip}
-use Rattle.format.specs.Labels.{ListOf, Bonds, Charges, Radicals, Centres, Pairs, Holds, Text, Version, Formula, BlockId, Atoms, Rows, Xyz, End, Skipped}
+use Rattle.format.specs.Bytes.{Bytes, cut, within, fields, strip}
+use Rattle.format.specs.Labels.{ListOf, Bonds, Charges, Radicals, Centres, Pairs, Holds, Text, Version, Formula, BlockId, Atoms, Rows, Xyz, Handedness, End, Skipped}
 use Rattle.format.specs.Rows.{Row, AtomRow, number, field, atomShape, rowShape}
-use Rattle.format.specs.Structure.{rowsOf, lists, most, arity, ranged, meets, rowBefore, atomOk, groupOk, rowOk, rowsOk, wellFormed}
+use Rattle.format.specs.Structure.{rowsOf, lists, most, arity, ranged, meets, rowBefore, atomOk, groupOk, rowOk, rowsOk, wellFormed, handedTwice}
 use Rattle.format.specs.Reading.{ordered}
 use Rattle.format.proofs.ByteLaws.{within-is}
 use Rattle.format.proofs.NumberLaws.{number-bound}
 use Rattle.format.proofs.OrderLaws.{row-strict, meets-symm, rows-apart}
 use Rattle.format.proofs.RowLaws.{fine-row}
-use Rattle.demands.specs.Accepted.{Told, Value, Further, listed, rowOn, fits, rowFits, atomFine, rowFine, valueRule, furtherRule, ownRule, atomOf, toldOf, atomRows, listRows, Obeys}
+use Rattle.demands.specs.Accepted.{Told, Value, Further, labels, named, listed, rowOn, fits, rowFits, atomFine, rowFine, valueRule, furtherRule, ownRule, atomOf, toldOf, atomRows, listRows, Obeys}
 use Rattle.demands.specs.ReadAs.{idAs, idsIn, rowsInOrder, structureIn}
 use Rattle.demands.proofs.AcceptedContents.{atomIn, atomOn, sameList, rowIn, rowOf, idOn, same-list, atoms-are, rows-are, ids-are}
+use Rattle.demands.proofs.AcceptedYes.{beside-none, kept-none}
 use Rattle.demands.proofs.AcceptedSoundShapes.{Shaped, row-shaped, atom-massless, atom-known}
 
 -- a line that keeps its rule: what follows of a row's shape and test holds of the row on it
@@ -99,6 +100,7 @@ module _ (l : ListOf) where
     line-alone Atoms b e = all-nil (alone l)
     line-alone (Rows m) b e = rows-alone m b (asks m b e)
     line-alone (Xyz x) b e = all-nil (alone l)
+    line-alone Handedness b e = all-nil (alone l)
     line-alone End b e = all-nil (alone l)
     line-alone Skipped b e = all-nil (alone l)
 
@@ -123,6 +125,7 @@ module _ (k : ℕ) (one : 1 ≤ k) where
     line-good Atoms b e = atoms-good b (asks b e)
     line-good (Rows m) b e = all-nil atomGood
     line-good (Xyz x) b e = all-nil atomGood
+    line-good Handedness b e = all-nil atomGood
     line-good End b e = all-nil atomGood
     line-good Skipped b e = all-nil atomGood
 
@@ -146,6 +149,7 @@ id-good (Value BlockId v) = number-good (field 0 (fields (strip v))) _ refl
 id-good (Value Atoms v) = all-nil idGood
 id-good (Value (Rows m) v) = all-nil idGood
 id-good (Value (Xyz x) v) = all-nil idGood
+id-good (Value Handedness v) = all-nil idGood
 id-good (Value End v) = all-nil idGood
 id-good (Value Skipped v) = all-nil idGood
 id-good (Further h l) = all-nil idGood
@@ -194,6 +198,13 @@ module _ (k : ℕ) (one : 1 ≤ k) (b : Bytes) (y : Obeys k b) where
   unfolding lists
   lists-good p f = all-both p Bonds _ (f Bonds) (all-both p Charges _ (f Charges) (all-both p Radicals _ (f Radicals) (all-both p Centres _ (f Centres) (all-both p Pairs [] (f Pairs) (all-nil p)))))
 
+  none-there : (l : ListOf) → isNil (rowsInOrder l b) ≡ isNil (listRows l b)
+  none-there l = same-none (rowsInOrder l b) (keptRows l) (sort-length rowBefore (keptRows l)) ∙ kept-none l (listRows l b)
+
+  once-handed : handedTwice (structureIn k b) ≡ false
+  unfolding handedTwice
+  once-handed = rw (none-there Centres, none-there Pairs) (beside-none (named (labels (cut b)) 17) _ _ _ (y .yes-once) (y .yes-alone))
+
   pub structure-fine : wellFormed k (structureIn k b) ≡ true
   unfolding wellFormed
   structure-fine =
@@ -201,4 +212,4 @@ module _ (k : ℕ) (one : 1 ≤ k) (b : Bytes) (y : Obeys k b) where
       and-both _ _ (ap (within 1 256) n ∙ within-is 1 256 count (omega (arith, y .atoms-there)) (y .atoms-held))
       (and-both _ _ (all-map (atomOk k) (atomOf k) (atomRows b) ∙ ap (all (atomGood k one)) (atoms-are b) ∙ all-flat atomOn (atomGood k one) (toldOf b) ∙ each-told k (λ t. all (atomGood k one) (atomOn t)) b (y .lines-fine) (told-good k one))
       (and-both _ _ (lists-good (rowsOk (length (structureIn k b .atoms)) (structureIn k b)) (list-good (length (structureIn k b .atoms)) n))
-      (first-good (idsIn b) (ap (all idGood) (ids-are b) ∙ all-flat idOn idGood (toldOf b) ∙ ids-good (toldOf b)))))
+      (and-both _ _ (first-good (idsIn b) (ap (all idGood) (ids-are b) ∙ all-flat idOn idGood (toldOf b) ∙ ids-good (toldOf b))) (not-of-false _ once-handed))))

@@ -12,16 +12,16 @@ use Rattle.lists.proofs.Bools.{torn}
 use Rattle.lists.proofs.PartLaws.{flat-nil, flat-one}
 use Rattle.lists.proofs.FoldLaws.{kept-nil, kept-again, kept-new}
 use Rattle.format.specs.Bytes.{Bytes, fields, strip}
-use Rattle.format.specs.Labels.{ListOf, Bonds, Charges, Radicals, Centres, Pairs, XyzOf, MaxXyz, XyzFactor, XyzRows, Holds, Text, Version, Formula, BlockId, Atoms, Rows, Xyz, End, Skipped, Label, Line, Plain, Unparted, Labelled, lineOf}
+use Rattle.format.specs.Labels.{ListOf, Bonds, Charges, Radicals, Centres, Pairs, XyzOf, MaxXyz, XyzFactor, XyzRows, Holds, Text, Version, Formula, BlockId, Atoms, Rows, Xyz, Handedness, End, Skipped, Label, Line, Plain, Unparted, Labelled, lineOf}
 use Rattle.format.specs.Rows.{Row, AtomRow, number, field, atomShape, rowShape}
 use Rattle.format.specs.Formula.{Counted, formulaShape}
 use Rattle.format.specs.Coordinates.{xyzShape, Factor, factorShape, Geometry}
 use Rattle.format.specs.Structure.{Atom, Structure, rowsOf, meets, Entry}
-use Rattle.format.specs.Reading.{State, Prose, withBody, withFormula, withGeometry, withText, withAtoms, withId, withRows, ordered, opened, onlyField}
-use Rattle.demands.specs.Accepted.{toldAs, runsOn, labelOn, listed, rowOn, entriesAs, atomOf}
+use Rattle.format.specs.Reading.{State, Prose, withBody, withFormula, withGeometry, withText, withAtoms, withId, withYes, withRows, ordered, opened, onlyField}
+use Rattle.demands.specs.Accepted.{toldAs, runsOn, labelOn, listed, rowOn, entriesAs, atomOf, yesShape}
 use Rattle.demands.specs.ReadAs.{idAs}
-use Rattle.demands.proofs.AcceptedContents.{byGeometry, formulaHeld, idHeld, same-list, list-same, atomIn, atomOn, sameList, rowIn, rowOf, entriesIn, idIn}
-use Rattle.demands.proofs.AcceptedSteps.{addAll, addAtom, chosen, addRow, addFormula, addId, addGreatest, addFactor, addXyz, xyzAfter, xyzAfterFurther, afterValue, afterFurther, afterAs, after}
+use Rattle.demands.proofs.AcceptedContents.{atomIn, atomOn, sameList, rowIn, rowOf, entriesIn, idIn, formulaHeld, idHeld, same-list, list-same}
+use Rattle.demands.proofs.AcceptedAfter.{addAll, addAtom, chosen, addRow, addFormula, addId, addGreatest, addFactor, addXyz, xyzAfter, xyzAfterFurther, addYes, afterValue, afterFurther, afterAs, after}
 
 -- WHAT NO LINE'S CONTENT CHANGES: the record that runs, the labels seen
 module _ {B : Type 0} (g : State → B) where
@@ -73,6 +73,7 @@ module _ {B : Type 0} (g : State → B) where
     value-same Atoms st from v = all-same (addAtom k) (λ s r. body s _) st (rowOn atomShape (fields (strip v)))
     value-same (Rows l) st from v = all-same (addRow l) (row-same l (λ s rs. body s _)) st (map ordered (rowOn (rowShape l) (fields (strip v))))
     value-same (Xyz x) st from v = xyz-same placing x st (fields (strip v))
+    value-same Handedness st from v = all-same addYes (λ s y. body s _) st (rowOn yesShape (fields (strip v)))
     value-same End st from v = refl
     value-same Skipped st from v = refl
 
@@ -84,6 +85,7 @@ module _ {B : Type 0} (g : State → B) where
     further-same Atoms st l = all-same (addAtom k) (λ s r. body s _) st (rowOn atomShape (fields (strip l)))
     further-same (Rows m) st l = all-same (addRow m) (row-same m (λ s rs. body s _)) st (map ordered (rowOn (rowShape m) (fields (strip l))))
     further-same (Xyz x) st l = xyz-further-same placing x st (fields (strip l))
+    further-same Handedness st l = all-same addYes (λ s y. body s _) st (rowOn yesShape (fields (strip l)))
     further-same End st l = refl
     further-same Skipped st l = refl
 
@@ -127,7 +129,7 @@ module _ (k : ℕ) where
   list-atoms : (m : ListOf) (st : State) (rs : List Row) → addAll (addRow m) st rs .body .atoms ≡ st .body .atoms
   list-atoms m st rs = all-same (λ (s : State). s .body .atoms) (addRow m) (row-same (λ (s : State). s .body .atoms) m (λ s qs. rows-atoms m qs (s .body))) st rs
 
-  formula-body : (st : State) (o : Option (List Counted)) → addFormula k st o .body ≡ st .body
+  pub formula-body : (st : State) (o : Option (List Counted)) → addFormula k st o .body ≡ st .body
   formula-body st none = refl
   formula-body st (some cs) = refl
 
@@ -143,6 +145,7 @@ module _ (k : ℕ) where
   value-atoms Atoms st from v = add-atoms st (rowOn atomShape (fields (strip v)))
   value-atoms (Rows m) st from v = list-atoms m st (map ordered (rowOn (rowShape m) (fields (strip v)))) ∙ sym (append-nil (st .body .atoms))
   value-atoms (Xyz x) st from v = xyz-same (λ (s : State). s .body .atoms) (λ s p. refl) x st (fields (strip v)) ∙ sym (append-nil (st .body .atoms))
+  value-atoms Handedness st from v = all-same (λ (s : State). s .body .atoms) addYes (λ s y. refl) st (rowOn yesShape (fields (strip v))) ∙ sym (append-nil (st .body .atoms))
   value-atoms End st from v = sym (append-nil (st .body .atoms))
   value-atoms Skipped st from v = sym (append-nil (st .body .atoms))
 
@@ -154,6 +157,7 @@ module _ (k : ℕ) where
   further-atoms Atoms st l = add-atoms st (rowOn atomShape (fields (strip l)))
   further-atoms (Rows m) st l = list-atoms m st (map ordered (rowOn (rowShape m) (fields (strip l)))) ∙ sym (append-nil (st .body .atoms))
   further-atoms (Xyz x) st l = xyz-further-same (λ (s : State). s .body .atoms) (λ s p. refl) x st (fields (strip l)) ∙ sym (append-nil (st .body .atoms))
+  further-atoms Handedness st l = all-same (λ (s : State). s .body .atoms) addYes (λ s y. refl) st (rowOn yesShape (fields (strip l))) ∙ sym (append-nil (st .body .atoms))
   further-atoms End st l = sym (append-nil (st .body .atoms))
   further-atoms Skipped st l = sym (append-nil (st .body .atoms))
 
@@ -211,6 +215,14 @@ id-rows Radicals n s = refl
 id-rows Centres n s = refl
 id-rows Pairs n s = refl
 
+yes-rows : (l : ListOf) (s : Structure) → rowsOf l (withYes s) ≡ rowsOf l s
+unfolding rowsOf
+yes-rows Bonds s = refl
+yes-rows Charges s = refl
+yes-rows Radicals s = refl
+yes-rows Centres s = refl
+yes-rows Pairs s = refl
+
 module _ (l : ListOf) where
   -- the rows of this list
   add-own : (st : State) (rs : List Row) → rowsOf l (addAll (addRow l) st rs .body) ≡ kept (meets l) (rowsOf l (st .body)) rs
@@ -256,6 +268,7 @@ module _ (l : ListOf) where
     value-rows Atoms st from v = atoms-kept st (rowOn atomShape (fields (strip v)))
     value-rows (Rows m) st from v = add-rows m st (map ordered (rowOn (rowShape m) (fields (strip v))))
     value-rows (Xyz x) st from v = xyz-same (λ (s : State). rowsOf l (s .body)) (λ s p. refl) x st (fields (strip v)) ∙ none-kept st
+    value-rows Handedness st from v = all-same (λ (s : State). rowsOf l (s .body)) addYes (λ s y. yes-rows l (s .body)) st (rowOn yesShape (fields (strip v))) ∙ none-kept st
     value-rows End st from v = none-kept st
     value-rows Skipped st from v = none-kept st
 
@@ -267,6 +280,7 @@ module _ (l : ListOf) where
     further-rows Atoms st b = atoms-kept st (rowOn atomShape (fields (strip b)))
     further-rows (Rows m) st b = add-rows m st (map ordered (rowOn (rowShape m) (fields (strip b))))
     further-rows (Xyz x) st b = xyz-further-same (λ (s : State). rowsOf l (s .body)) (λ s p. refl) x st (fields (strip b)) ∙ none-kept st
+    further-rows Handedness st b = all-same (λ (s : State). rowsOf l (s .body)) addYes (λ s y. yes-rows l (s .body)) st (rowOn yesShape (fields (strip b))) ∙ none-kept st
     further-rows End st b = none-kept st
     further-rows Skipped st b = none-kept st
 
@@ -297,6 +311,7 @@ module _ (k : ℕ) where
   value-formula Atoms st from v e = (all-same (λ (s : State). s .formula) (addAtom k) (λ s r. refl) st (rowOn atomShape (fields (strip v))), refl)
   value-formula (Rows m) st from v e = (all-same (λ (s : State). s .formula) (addRow m) (row-same (λ (s : State). s .formula) m (λ s rs. refl)) st (map ordered (rowOn (rowShape m) (fields (strip v)))), refl)
   value-formula (Xyz x) st from v e = (xyz-same (λ (s : State). s .formula) (λ s p. refl) x st (fields (strip v)), refl)
+  value-formula Handedness st from v e = (all-same (λ (s : State). s .formula) addYes (λ s y. refl) st (rowOn yesShape (fields (strip v))), refl)
   value-formula End st from v e = (refl, refl)
   value-formula Skipped st from v e = (refl, refl)
 
@@ -308,6 +323,7 @@ module _ (k : ℕ) where
   value-entries Atoms st from v n e = torn false e refl
   value-entries (Rows m) st from v n e = torn false e refl
   value-entries (Xyz x) st from v n e = torn false e refl
+  value-entries Handedness st from v n e = torn false e refl
   value-entries End st from v n e = torn false e refl
   value-entries Skipped st from v n e = torn false e refl
 
@@ -319,6 +335,7 @@ module _ (k : ℕ) where
   further-formula Atoms st l = all-same (λ (s : State). s .formula) (addAtom k) (λ s r. refl) st (rowOn atomShape (fields (strip l)))
   further-formula (Rows m) st l = all-same (λ (s : State). s .formula) (addRow m) (row-same (λ (s : State). s .formula) m (λ s rs. refl)) st (map ordered (rowOn (rowShape m) (fields (strip l))))
   further-formula (Xyz x) st l = xyz-further-same (λ (s : State). s .formula) (λ s p. refl) x st (fields (strip l))
+  further-formula Handedness st l = all-same (λ (s : State). s .formula) addYes (λ s y. refl) st (rowOn yesShape (fields (strip l)))
   further-formula End st l = refl
   further-formula Skipped st l = refl
 
@@ -354,6 +371,7 @@ module _ (k : ℕ) where
   value-quiet-id Atoms st from v e = (atoms-id st (rowOn atomShape (fields (strip v))), refl)
   value-quiet-id (Rows m) st from v e = (list-id m st (map ordered (rowOn (rowShape m) (fields (strip v)))), refl)
   value-quiet-id (Xyz x) st from v e = (xyz-same (λ (s : State). s .body .id) (λ s p. refl) x st (fields (strip v)), refl)
+  value-quiet-id Handedness st from v e = (all-same (λ (s : State). s .body .id) addYes (λ s y. refl) st (rowOn yesShape (fields (strip v))), refl)
   value-quiet-id End st from v e = (refl, refl)
   value-quiet-id Skipped st from v e = (refl, refl)
 
@@ -365,6 +383,7 @@ module _ (k : ℕ) where
   value-id Atoms st from v n e = torn false e refl
   value-id (Rows m) st from v n e = torn false e refl
   value-id (Xyz x) st from v n e = torn false e refl
+  value-id Handedness st from v n e = torn false e refl
   value-id End st from v n e = torn false e refl
   value-id Skipped st from v n e = torn false e refl
 
@@ -376,66 +395,6 @@ module _ (k : ℕ) where
   further-id Atoms st l = atoms-id st (rowOn atomShape (fields (strip l)))
   further-id (Rows m) st l = list-id m st (map ordered (rowOn (rowShape m) (fields (strip l))))
   further-id (Xyz x) st l = xyz-further-same (λ (s : State). s .body .id) (λ s p. refl) x st (fields (strip l))
+  further-id Handedness st l = all-same (λ (s : State). s .body .id) addYes (λ s y. refl) st (rowOn yesShape (fields (strip l)))
   further-id End st l = refl
   further-id Skipped st l = refl
-
-  -- THE TEXTS: what is no text leaves them
-  pub texts-formula : (st : State) (o : Option (List Counted)) → addFormula k st o .texts ≡ st .texts
-  texts-formula st none = refl
-  texts-formula st (some cs) = refl
-
-  pub texts-id : (st : State) (o : Option ℕ) → addId st o .texts ≡ st .texts
-  texts-id st none = refl
-  texts-id st (some n) = refl
-
-  pub texts-atoms : (st : State) (rs : List AtomRow) → addAll (addAtom k) st rs .texts ≡ st .texts
-  texts-atoms st rs = all-same (λ (s : State). s .texts) (addAtom k) (λ s r. refl) st rs
-
-  pub texts-list : (m : ListOf) (st : State) (rs : List Row) → addAll (addRow m) st rs .texts ≡ st .texts
-  texts-list m st rs = all-same (λ (s : State). s .texts) (addRow m) (row-same (λ (s : State). s .texts) m (λ s qs. refl)) st rs
-
-  pub texts-xyz : (x : XyzOf) (st : State) (fs : List Bytes) → xyzAfter x st fs .texts ≡ st .texts
-  texts-xyz x st fs = xyz-same (λ (s : State). s .texts) (λ s p. refl) x st fs
-
-  pub texts-xyz-further : (x : XyzOf) (st : State) (fs : List Bytes) → xyzAfterFurther x st fs .texts ≡ st .texts
-  texts-xyz-further x st fs = xyz-further-same (λ (s : State). s .texts) (λ s p. refl) x st fs
-
--- THE GEOMETRY, which its three records alone give
-module _ (k : ℕ) where
-  formula-geometry : (st : State) (o : Option (List Counted)) → addFormula k st o .geometry ≡ st .geometry
-  formula-geometry st none = refl
-  formula-geometry st (some cs) = refl
-
-  id-geometry : (st : State) (o : Option ℕ) → addId st o .geometry ≡ st .geometry
-  id-geometry st none = refl
-  id-geometry st (some n) = refl
-
-  atoms-geometry : (st : State) (rs : List AtomRow) → addAll (addAtom k) st rs .geometry ≡ st .geometry
-  atoms-geometry st rs = all-same (λ (s : State). s .geometry) (addAtom k) (λ s r. refl) st rs
-
-  list-geometry : (m : ListOf) (st : State) (rs : List Row) → addAll (addRow m) st rs .geometry ≡ st .geometry
-  list-geometry m st rs = all-same (λ (s : State). s .geometry) (addRow m) (row-same (λ (s : State). s .geometry) m (λ s qs. refl)) st rs
-
-  -- any other record leaves it, so that what is said of it after a line is said by the three
-  module _ {B : Type 0} (g : Geometry → B) where
-    pub value-geometry : (h : Holds) (st : State) (from : ℕ) (v : Bytes) → g (afterValue k h st from v .geometry) ≡ byGeometry (g (st .geometry)) (λ x. g (xyzAfter x st (fields (strip v)) .geometry)) h
-    value-geometry (Text i) st from v = refl
-    value-geometry Version st from v = refl
-    value-geometry Formula st from v = ap g (formula-geometry st (formulaShape (strip v)))
-    value-geometry BlockId st from v = ap g (id-geometry st (number (field 0 (fields (strip v)))))
-    value-geometry Atoms st from v = ap g (atoms-geometry st (rowOn atomShape (fields (strip v))))
-    value-geometry (Rows m) st from v = ap g (list-geometry m st (map ordered (rowOn (rowShape m) (fields (strip v)))))
-    value-geometry (Xyz x) st from v = refl
-    value-geometry End st from v = refl
-    value-geometry Skipped st from v = refl
-
-    pub further-geometry : (h : Holds) (st : State) (l : Bytes) → g (afterFurther k h st l .geometry) ≡ byGeometry (g (st .geometry)) (λ x. g (xyzAfterFurther x st (fields (strip l)) .geometry)) h
-    further-geometry (Text i) st l = refl
-    further-geometry Version st l = refl
-    further-geometry Formula st l = refl
-    further-geometry BlockId st l = refl
-    further-geometry Atoms st l = ap g (atoms-geometry st (rowOn atomShape (fields (strip l))))
-    further-geometry (Rows m) st l = ap g (list-geometry m st (map ordered (rowOn (rowShape m) (fields (strip l)))))
-    further-geometry (Xyz x) st l = refl
-    further-geometry End st l = refl
-    further-geometry Skipped st l = refl

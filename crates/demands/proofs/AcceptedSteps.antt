@@ -4,103 +4,27 @@ use Prim.Native.Nat.{ℕ, suc, _+_, _-_}
 use mathlib.Core.Path.{_≡_, refl, sym, ap, _∙_}
 use mathlib.Core.Bool.{Bool, true, false, not, _&&_, _||_, or-false, and-true}
 use mathlib.Core.Option.{Option, none, some}
-use mathlib.Core.List.{List, [], _∷_, _++_, map}
+use mathlib.Core.List.{List, [], _∷_, map}
 use native.Mathlib.Omega.{arith}
-use lib.ListN.{length, getD, drop}
+use lib.ListN.{length, drop}
 use lib.Dec.{eqb, leb}
 use borrow.Author.Tests.{ne-eqb}
 use Rattle.lists.specs.Lists.{isNil, all, any, pairs}
 use Rattle.lists.proofs.Bools.{and-left-false, and-shuffle}
 use Rattle.lists.proofs.ListLaws.{all-parts}
-use Rattle.format.specs.Bytes.{Bytes, within, gap, hash, headIs, allowed, fields, strip}
-use Rattle.format.specs.Labels.{ListOf, XyzOf, MaxXyz, XyzFactor, XyzRows, Holds, Text, Version, Formula, BlockId, Atoms, Rows, Xyz, End, Skipped, Label, misplaced, Line, Plain, Unparted, Labelled, lineOf, titleLine}
+use Rattle.format.specs.Bytes.{Bytes, bytes, same, within, gap, hash, headIs, allowed, fields, strip}
+use Rattle.format.specs.Labels.{ListOf, MaxXyz, XyzFactor, XyzRows, Holds, Text, Version, Formula, BlockId, Atoms, Rows, Xyz, Handedness, End, Skipped, Label, misplaced, Line, Plain, Unparted, Labelled, lineOf, titleLine}
 use Rattle.format.specs.Rows.{Row, AtomRow, number, field, atomShape, rowShape}
 use Rattle.format.specs.Formula.{Counted, formulaShape}
 use Rattle.format.specs.Coordinates.{XyzRow, xyzShape, Factor, factorShape, geometry, exceeds}
-use Rattle.format.specs.Structure.{unknown, massOk, rowsOf, most, ranged, meets, clash, entriesOf, agree}
-use Rattle.format.specs.Reading.{strict, State, prose, Turn, Go, Stop, if_stop_else_, withBody, withFormula, withGeometry, withText, past, withAtoms, withId, withRows, atomCount, lacks, ordered, extended, atomTurn, joined, joinTurn, rowTurn, formulaTurn, versionTurn, idValue, idTurn, onlyField, greatestTurn, factorTurn, xyzTurn, atomLine, rowLine, xyzLine, xyzValue, partly, endTurn, valueTurn, blankOr, xyzFurther, furtherTurn, over, opened, lineTurn, lineStep, Outcome, Accepted, Refused, ending, readLines}
+use Rattle.format.specs.Structure.{unknown, massOk, rowsOf, most, ranged, meets, clash, handedTwice, entriesOf, agree}
+use Rattle.format.specs.Reading.{strict, State, Turn, Go, Stop, if_stop_else_, withBody, past, withYes, atomCount, lacks, ordered, atomTurn, joined, joinTurn, rowTurn, formulaTurn, versionTurn, idValue, idTurn, onlyField, greatestTurn, factorTurn, xyzTurn, atomLine, rowLine, xyzLine, xyzValue, yesTurn, yesLine, partly, endTurn, valueTurn, blankOr, xyzFurther, furtherTurn, over, opened, lineTurn, lineStep, Outcome, Accepted, Refused, ending, readLines}
 use Rattle.format.proofs.ByteLaws.{gap-small}
 use Rattle.format.proofs.ReadingLaws.{read-go, read-stop, read-end}
-use Rattle.demands.specs.Accepted.{listed, rowOn, entriesAs, fits, rowFits, atomFine, rowFine, formulaFine, versionFine, idFine, valueRule, furtherRule, atomOf, unparted}
-use Rattle.demands.proofs.AcceptedContents.{byHolds, byGeometry, byXyz, formulaHeld}
-
--- THE STATE AFTER A LINE, whatever was tested
-abbrev pub addAll : {A : Type 0} → (State → A → State) → State → List A → State
-addAll f st [] = st
-addAll f st (x ∷ xs) = addAll f (f st x) xs
-
-abbrev pub addAtom : (k : ℕ) → State → AtomRow → State
-addAtom k st r = withBody st (withAtoms (st .body .atoms ++ (atomOf k r ∷ [])) (st .body))
-
-abbrev pub chosen : Bool → State → State → State
-chosen true old new = old
-chosen false old new = new
-
-abbrev pub addRow : ListOf → State → Row → State
-addRow l st r = chosen (any (meets l r) (rowsOf l (st .body))) st (withBody st (withRows l (r ∷ rowsOf l (st .body)) (st .body)))
-
-abbrev pub addFormula : (k : ℕ) → State → Option (List Counted) → State
-addFormula k st none = st
-addFormula k st (some cs) = withFormula st (entriesAs k (some cs))
-
-abbrev pub addId : State → Option ℕ → State
-addId st none = st
-addId st (some n) = withBody st (withId n (st .body))
-
-abbrev pub addGreatest : State → Option ℕ → State
-addGreatest st none = st
-addGreatest st (some n) = withGeometry st (geometry n (st .geometry .scale) (st .geometry .rows))
-
-abbrev pub addFactor : State → Option Factor → State
-addFactor st none = st
-addFactor st (some f) = withGeometry st (geometry (st .geometry .greatest) f (st .geometry .rows))
-
-abbrev pub addXyz : State → XyzRow → State
-addXyz st r = withGeometry st (geometry (st .geometry .greatest) (st .geometry .scale) (r ∷ st .geometry .rows))
-
-abbrev pub xyzAfter : XyzOf → State → List Bytes → State
-xyzAfter MaxXyz st fs = addGreatest st (number (onlyField fs))
-xyzAfter XyzFactor st fs = addFactor st (factorShape (onlyField fs))
-xyzAfter XyzRows st fs = addAll addXyz st (rowOn xyzShape fs)
-
-abbrev pub xyzAfterFurther : XyzOf → State → List Bytes → State
-xyzAfterFurther MaxXyz st fs = st
-xyzAfterFurther XyzFactor st fs = st
-xyzAfterFurther XyzRows st fs = addAll addXyz st (rowOn xyzShape fs)
-
-abbrev pub afterValue : (k : ℕ) → Holds → State → (from : ℕ) → Bytes → State
-afterValue k (Text i) st from v = withText st i (prose from v)
-afterValue k Version st from v = st
-afterValue k Formula st from v = addFormula k st (formulaShape (strip v))
-afterValue k BlockId st from v = addId st (number (field 0 (fields (strip v))))
-afterValue k Atoms st from v = addAll (addAtom k) st (rowOn atomShape (fields (strip v)))
-afterValue k (Rows l) st from v = addAll (addRow l) st (map ordered (rowOn (rowShape l) (fields (strip v))))
-afterValue k (Xyz x) st from v = xyzAfter x st (fields (strip v))
-afterValue k End st from v = st
-afterValue k Skipped st from v = st
-
-abbrev pub afterFurther : (k : ℕ) → Holds → State → Bytes → State
-afterFurther k (Text i) st l = withText st i (extended (getD (st .texts) i (prose 0 [])) l)
-afterFurther k Version st l = st
-afterFurther k Formula st l = st
-afterFurther k BlockId st l = st
-afterFurther k Atoms st l = addAll (addAtom k) st (rowOn atomShape (fields (strip l)))
-afterFurther k (Rows r) st l = addAll (addRow r) st (map ordered (rowOn (rowShape r) (fields (strip l))))
-afterFurther k (Xyz x) st l = xyzAfterFurther x st (fields (strip l))
-afterFurther k End st l = st
-afterFurther k Skipped st l = st
-
-abbrev pub afterAs : (k : ℕ) → State → Bytes → Line → State
-afterAs k st l Plain = afterFurther k (st .running) st l
-afterAs k st l Unparted = st
-afterAs k st l (Labelled x v) = afterValue k (x .holds) (opened st x) (st .at + (length l - length v)) v
-
-unfoldable pub after : (k : ℕ) → State → Bytes → State
-after k st l = past l (afterAs k st l (lineOf l))
-
-unfoldable pub afters : (k : ℕ) → State → List Bytes → State
-afters k st [] = st
-afters k st (l ∷ ls) = afters k (after k st l) ls
+use Rattle.demands.specs.Accepted.{unparted, listed, rowOn, fits, rowFits, atomFine, rowFine, formulaFine, versionFine, idFine, Yes, YES, yesShape, valueRule, furtherRule}
+use Rattle.demands.proofs.AcceptedHolds.{byHolds, byGeometry, byYes, byXyz}
+use Rattle.demands.proofs.AcceptedContents.{formulaHeld}
+use Rattle.demands.proofs.AcceptedAfter.{addAll, addAtom, chosen, addRow, addFormula, addId, addGreatest, addFactor, addXyz, addYes, afterValue, afterFurther, afterAs, after, afters}
 
 -- THE TESTS OF A LINE
 abbrev pub passing : {A : Type 0} → (A → Bool) → Option A → Bool
@@ -119,6 +43,9 @@ listPasses test h l = byHolds true true true true (λ m. rowPasses (rowShape m) 
 
 abbrev pub xyzPasses : (XyzRow → Bool) → Holds → Bytes → Bool
 xyzPasses test h l = byGeometry true (byXyz true true (rowPasses xyzShape test (fields (strip l)))) h
+
+abbrev pub yesPasses : (Yes → Bool) → Holds → Bytes → Bool
+yesPasses test h l = byYes true (rowPasses yesShape test (fields (strip l))) h
 
 -- of MOLFORM's value the reading asks that the machine reads a fine formula, of any value its own rule
 abbrev pub formulaPasses : (k : ℕ) → Bytes → Bool
@@ -164,14 +91,20 @@ xyzListedAt st r = within 1 (atomCount st) (r .atom)
 abbrev pub xyzAboveAt : State → XyzRow → Bool
 xyzAboveAt st r = not (any (λ q. leb (r .atom) (q .atom)) (st .geometry .rows))
 
+abbrev pub yesFirstAt : State → Yes → Bool
+yesFirstAt st y = not (st .body .handed)
+
 abbrev pub present : State → Bool
 present st = not (any (lacks (st .seen)) (2 ∷ 3 ∷ 4 ∷ 5 ∷ []) || eqb (atomCount st) 0)
 
 abbrev pub together : State → Bool
 together st = not (partly (st .seen) (14 ∷ 15 ∷ 16 ∷ []))
 
+abbrev pub yesThere : State → Bool
+yesThere st = lacks (st .seen) 17 || st .body .handed
+
 abbrev pub complete : State → Bool
-complete st = present st && (agree (st .formula) (entriesOf (st .body .atoms)) && (together st && not (exceeds (st .geometry))))
+complete st = present st && (yesThere st && (not (handedTwice (st .body)) && (agree (st .formula) (entriesOf (st .body .atoms)) && (together st && not (exceeds (st .geometry))))))
 
 abbrev pub endAt : State → Line → Bool
 endAt st Plain = true
@@ -187,7 +120,8 @@ rowTests k st l line =
     && (onLine (listPasses (apartAt st)) (listPasses (apartAt st)) (st .running) l line
     && (onLine (listPasses (heldAt st)) (listPasses (heldAt st)) (st .running) l line
     && (onLine (xyzPasses (xyzListedAt st)) (xyzPasses (xyzListedAt st)) (st .running) l line
-    && (onLine (xyzPasses (xyzAboveAt st)) (xyzPasses (xyzAboveAt st)) (st .running) l line && endAt st line))))))
+    && (onLine (xyzPasses (xyzAboveAt st)) (xyzPasses (xyzAboveAt st)) (st .running) l line
+    && (onLine (yesPasses (yesFirstAt st)) (yesPasses (yesFirstAt st)) (st .running) l line && endAt st line)))))))
 
 abbrev lineTests : (k : ℕ) → State → Bytes → Line → Bool
 lineTests k st l line = not (unparted line) && (placedAt st line && (closedAt st l && (onLine (valueTest k) (furtherRule k) (st .running) l line && rowTests k st l line)))
@@ -211,6 +145,11 @@ if-not false q n t st e = refl
 if-so : (p q : Bool) (n : ℕ) (t : Turn) (st : State) → goneTo t ≡ when q st → goneTo (if p stop n else t) ≡ when (not p && q) st
 if-so true q n t st e = refl
 if-so false q n t st e = e
+
+if-either : (a b q : Bool) (n : ℕ) (t : Turn) (st : State) → goneTo t ≡ when q st → goneTo (if not a || not b stop n else t) ≡ when (a && (b && q)) st
+if-either true true q n t st e = e
+if-either true false q n t st e = refl
+if-either false b q n t st e = refl
 
 atom-shuffle : (a n u f : Bool) → (a && (n && (u && (f && true)))) ≡ ((a && u) && (n && (f && true)))
 atom-shuffle false n u f = refl
@@ -312,21 +251,39 @@ module _ (k : ℕ) (st : State) where
   xyzs-gone [] = refl
   xyzs-gone (f ∷ fs) = xyz-gone (xyzShape (f ∷ fs))
 
+  yes-gone : (fs : List Bytes) → goneTo (yesTurn st fs) ≡ when (fits (λ y. true) (yesShape fs) && (passing (yesFirstAt st) (yesShape fs) && true)) (addAll addYes st (listed (yesShape fs)))
+  unfolding yesTurn
+  yes-gone fs = by (same (onlyField fs) (bytes "YES")) (st .body .handed)
+    where
+      by : (t h : Bool) → goneTo (if h || not t stop 9 else Go (withBody st (withYes (st .body))))
+          ≡ when (fits {A = Yes} (λ y. true) (elim t as (λ (u : Bool). Option Yes) [ true ↦ some YES | false ↦ none ]) && (passing {A = Yes} (λ y. not h) (elim t as (λ (u : Bool). Option Yes) [ true ↦ some YES | false ↦ none ]) && true))
+          (addAll addYes st (listed (elim t as (λ (u : Bool). Option Yes) [ true ↦ some YES | false ↦ none ])))
+      by true true = refl
+      by true false = refl
+      by false true = refl
+      by false false = refl
+
+  yeses-gone : (fs : List Bytes) → goneTo (yesLine st fs) ≡ when (rowFits yesShape (λ y. true) fs && (rowPasses yesShape (yesFirstAt st) fs && true)) (addAll addYes st (rowOn yesShape fs))
+  unfolding yesLine
+  yeses-gone [] = refl
+  yeses-gone (f ∷ fs) = yes-gone (f ∷ fs)
+
   end-gone : (fs : List Bytes) → goneTo (endTurn (strict k) st fs) ≡ when (isNil fs && complete st) st
   unfolding endTurn
   end-gone fs =
       if-so (any (lacks (st .seen)) (2 ∷ 3 ∷ 4 ∷ 5 ∷ []) || eqb (atomCount st) 0) _ 8 _ _
-      (if-not (isNil fs) _ 9 _ _
+      (if-either (isNil fs) (yesThere st) _ 9 _ _
+      (if-so (handedTwice (st .body)) _ 13 _ _
       (if-not (agree (st .formula) (entriesOf (st .body .atoms))) _ 15 _ _
-      (if-so (partly (st .seen) (14 ∷ 15 ∷ 16 ∷ [])) _ 41 _ _ (if-so (exceeds (st .geometry)) true 42 (Go st) st refl ∙ ap (λ (t : Bool). when t st) (and-true (not (exceeds (st .geometry))))))))
-      ∙ ap (λ (t : Bool). when t st) (end-shuffle (present st) (isNil fs) (agree (st .formula) (entriesOf (st .body .atoms)) && (together st && not (exceeds (st .geometry)))))
+      (if-so (partly (st .seen) (14 ∷ 15 ∷ 16 ∷ [])) _ 41 _ _ (if-so (exceeds (st .geometry)) true 42 (Go st) st refl ∙ ap (λ (t : Bool). when t st) (and-true (not (exceeds (st .geometry)))))))))
+      ∙ ap (λ (t : Bool). when t st) (end-shuffle (present st) (isNil fs) (yesThere st && (not (handedTwice (st .body)) && (agree (st .formula) (entriesOf (st .body .atoms)) && (together st && not (exceeds (st .geometry)))))))
 
   blank-gone : (n : ℕ) (l : Bytes) → goneTo (blankOr n st l) ≡ when (all gap l && true) st
   unfolding blankOr
   blank-gone n l = if-not (all gap l) true n (Go st) st refl
 
   -- a further line of a record, and a value
-  further-gone : (h : Holds) (l : Bytes) → goneTo (furtherTurn (strict k) h st l) ≡ when ((not (over h) || all gap l) && (furtherRule k h l && (atomPasses (nextAtom st) h l && (atomPasses (roomAt st) h l && (listPasses (listedAt st) h l && (listPasses (apartAt st) h l && (listPasses (heldAt st) h l && (xyzPasses (xyzListedAt st) h l && (xyzPasses (xyzAboveAt st) h l && true))))))))) (afterFurther k h st l)
+  further-gone : (h : Holds) (l : Bytes) → goneTo (furtherTurn (strict k) h st l) ≡ when ((not (over h) || all gap l) && (furtherRule k h l && (atomPasses (nextAtom st) h l && (atomPasses (roomAt st) h l && (listPasses (listedAt st) h l && (listPasses (apartAt st) h l && (listPasses (heldAt st) h l && (xyzPasses (xyzListedAt st) h l && (xyzPasses (xyzAboveAt st) h l && (yesPasses (yesFirstAt st) h l && true)))))))))) (afterFurther k h st l)
   unfolding furtherTurn xyzFurther
   further-gone (Text i) l = refl
   further-gone Version l = blank-gone 9 (strip l)
@@ -337,10 +294,11 @@ module _ (k : ℕ) (st : State) where
   further-gone (Xyz MaxXyz) l = blank-gone 9 (strip l)
   further-gone (Xyz XyzFactor) l = blank-gone 9 (strip l)
   further-gone (Xyz XyzRows) l = xyzs-gone (fields (strip l))
+  further-gone Handedness l = yeses-gone (fields (strip l))
   further-gone End l = blank-gone 17 l
   further-gone Skipped l = refl
 
-  value-gone : (h : Holds) (from : ℕ) (v : Bytes) → goneTo (valueTurn (strict k) h st from v) ≡ when (valueTest k h v && (atomPasses (nextAtom st) h v && (atomPasses (roomAt st) h v && (listPasses (listedAt st) h v && (listPasses (apartAt st) h v && (listPasses (heldAt st) h v && (xyzPasses (xyzListedAt st) h v && (xyzPasses (xyzAboveAt st) h v && (not (over h) || complete st))))))))) (afterValue k h st from v)
+  value-gone : (h : Holds) (from : ℕ) (v : Bytes) → goneTo (valueTurn (strict k) h st from v) ≡ when (valueTest k h v && (atomPasses (nextAtom st) h v && (atomPasses (roomAt st) h v && (listPasses (listedAt st) h v && (listPasses (apartAt st) h v && (listPasses (heldAt st) h v && (xyzPasses (xyzListedAt st) h v && (xyzPasses (xyzAboveAt st) h v && (yesPasses (yesFirstAt st) h v && (not (over h) || complete st)))))))))) (afterValue k h st from v)
   unfolding valueTurn xyzValue
   value-gone (Text i) from v = refl
   value-gone Version from v = version-gone (fields (strip v))
@@ -351,6 +309,7 @@ module _ (k : ℕ) (st : State) where
   value-gone (Xyz MaxXyz) from v = greatest-gone (number (onlyField (fields (strip v))))
   value-gone (Xyz XyzFactor) from v = factor-gone (factorShape (onlyField (fields (strip v))))
   value-gone (Xyz XyzRows) from v = xyzs-gone (fields (strip v))
+  value-gone Handedness from v = yeses-gone (fields (strip v))
   value-gone End from v = end-gone (fields (strip v))
   value-gone Skipped from v = refl
 

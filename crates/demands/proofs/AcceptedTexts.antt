@@ -3,6 +3,7 @@
 use Prim.Native.Nat.{ℕ, _+_, _-_, _<_}
 use mathlib.Core.Path.{_≡_, refl, sym, ap, _∙_}
 use mathlib.Core.Bool.{Bool, true, false, not, _||_}
+use mathlib.Core.Option.{Option, none, some}
 use mathlib.Core.List.{List, [], _∷_, _++_, map, append-nil, append-assoc}
 use native.Mathlib.Omega.{arith}
 use lib.ListN.{length, getD, set, length-set, drop}
@@ -12,25 +13,51 @@ use borrow.Author.Tests.{eqb-true, eq-eqb, not-true}
 use Rattle.lists.specs.Lists.{all}
 use Rattle.lists.proofs.Bools.{torn, and-parts, or-other}
 use Rattle.format.specs.Bytes.{Bytes, isLabel, fields, strip}
-use Rattle.format.specs.Labels.{Holds, Text, Version, Formula, BlockId, Atoms, Rows, Xyz, End, Skipped, Label, label, known, Parts, NoEquals, Parted, parts, partsLine, Line, Plain, Unparted, Labelled, lineOf}
-use Rattle.format.specs.Rows.{number, field, atomShape, rowShape}
-use Rattle.format.specs.Formula.{formulaShape}
+use Rattle.format.specs.Labels.{ListOf, XyzOf, Holds, Text, Version, Formula, BlockId, Atoms, Rows, Xyz, Handedness, End, Skipped, Label, label, known, Parts, NoEquals, Parted, parts, partsLine, Line, Plain, Unparted, Labelled, lineOf}
+use Rattle.format.specs.Rows.{number, field, atomShape, rowShape, Row, AtomRow}
+use Rattle.format.specs.Formula.{formulaShape, Counted}
 use Rattle.format.specs.Reading.{ordered, State, Prose, prose, extended, opened, start}
 use Rattle.format.specs.Walking.{untilLabel, valueOf}
-use Rattle.demands.specs.Accepted.{runsOn, unparted, labelOn, rowOn}
+use Rattle.demands.specs.Accepted.{runsOn, unparted, labelOn, rowOn, Yes, yesShape}
 use Rattle.demands.specs.ReadAs.{holdsText, startsText, textFrom}
-use Rattle.demands.proofs.AcceptedSteps.{afterValue, afterFurther, afterAs, after, afters, along, placedAt}
-use Rattle.demands.proofs.AcceptedState.{value-same, further-same, texts-formula, texts-id, texts-atoms, texts-list, texts-xyz, texts-xyz-further, after-running}
+use Rattle.demands.proofs.AcceptedAfter.{addAll, addAtom, addRow, addFormula, addId, xyzAfter, xyzAfterFurther, addYes, afterValue, afterFurther, afterAs, after, afters}
+use Rattle.demands.proofs.AcceptedSteps.{placedAt, along}
+use Rattle.demands.proofs.AcceptedState.{all-same, row-same, xyz-same, xyz-further-same, value-same, further-same, after-running}
 use Rattle.demands.proofs.AcceptedLines.{label-passed, placed}
-use Rattle.demands.proofs.AcceptedOrder.{codeSeen, noted-some, seen-later, seen-now}
+use Rattle.demands.proofs.AcceptedOrder.{noted-some, codeSeen, seen-later, seen-now}
 use Rattle.demands.proofs.AcceptedOnce.{seen-barred}
 
+-- WHAT IS NO TEXT leaves the texts
+module _ (k : ℕ) where
+  texts-formula : (st : State) (o : Option (List Counted)) → addFormula k st o .texts ≡ st .texts
+  texts-formula st none = refl
+  texts-formula st (some cs) = refl
+
+  texts-id : (st : State) (o : Option ℕ) → addId st o .texts ≡ st .texts
+  texts-id st none = refl
+  texts-id st (some n) = refl
+
+  texts-atoms : (st : State) (rs : List AtomRow) → addAll (addAtom k) st rs .texts ≡ st .texts
+  texts-atoms st rs = all-same (λ (s : State). s .texts) (addAtom k) (λ s r. refl) st rs
+
+  texts-list : (m : ListOf) (st : State) (rs : List Row) → addAll (addRow m) st rs .texts ≡ st .texts
+  texts-list m st rs = all-same (λ (s : State). s .texts) (addRow m) (row-same (λ (s : State). s .texts) m (λ s qs. refl)) st rs
+
+  texts-xyz : (x : XyzOf) (st : State) (fs : List Bytes) → xyzAfter x st fs .texts ≡ st .texts
+  texts-xyz x st fs = xyz-same (λ (s : State). s .texts) (λ s p. refl) x st fs
+
+  texts-xyz-further : (x : XyzOf) (st : State) (fs : List Bytes) → xyzAfterFurther x st fs .texts ≡ st .texts
+  texts-xyz-further x st fs = xyz-further-same (λ (s : State). s .texts) (λ s p. refl) x st fs
+
+  texts-yes : (st : State) (ys : List Yes) → addAll addYes st ys .texts ≡ st .texts
+  texts-yes st ys = all-same (λ (s : State). s .texts) addYes (λ s y. refl) st ys
+
 -- A TEXT AMONG THE TEXTS
-abbrev none : Prose
-none = prose 0 []
+abbrev emptyText : Prose
+emptyText = prose 0 []
 
 abbrev textOf : ℕ → State → Prose
-textOf i st = getD (st .texts) i none
+textOf i st = getD (st .texts) i emptyText
 
 -- a plain line is no label line, and the other way round
 parts-label : (p : Parts) → partsLine p ≡ Plain → ⊥
@@ -93,26 +120,28 @@ module _ (k : ℕ) where
   module _ (i : ℕ) where
     -- ONE LINE: the value of the text's own label line, a further line of its record, any other line
     value-here : (h : Holds) (st : State) (from : ℕ) (v : Bytes) → i < length (st .texts) → holdsText i h ≡ true → textOf i (afterValue k h st from v) ≡ prose from v
-    value-here (Text j) st from v n e = let q : i ≡ j = eqb-true i j e in ap (λ (m : ℕ). getD (set (st .texts) m (prose from v)) i none) (sym q) ∙ getD-set-same (st .texts) i (prose from v) none n
+    value-here (Text j) st from v n e = let q : i ≡ j = eqb-true i j e in ap (λ (m : ℕ). getD (set (st .texts) m (prose from v)) i emptyText) (sym q) ∙ getD-set-same (st .texts) i (prose from v) emptyText n
     value-here Version st from v n e = torn false e refl
     value-here Formula st from v n e = torn false e refl
     value-here BlockId st from v n e = torn false e refl
     value-here Atoms st from v n e = torn false e refl
     value-here (Rows m) st from v n e = torn false e refl
     value-here (Xyz x) st from v n e = torn false e refl
+    value-here Handedness st from v n e = torn false e refl
     value-here End st from v n e = torn false e refl
     value-here Skipped st from v n e = torn false e refl
 
     further-here : (h : Holds) (st : State) (l : Bytes) → i < length (st .texts) → holdsText i h ≡ true → textOf i (afterFurther k h st l) ≡ extended (textOf i st) l
     further-here (Text j) st l n e =
         let q : i ≡ j = eqb-true i j e in
-        ap (λ (m : ℕ). getD (set (st .texts) m (extended (getD (st .texts) m none) l)) i none) (sym q) ∙ getD-set-same (st .texts) i (extended (textOf i st) l) none n
+        ap (λ (m : ℕ). getD (set (st .texts) m (extended (getD (st .texts) m emptyText) l)) i emptyText) (sym q) ∙ getD-set-same (st .texts) i (extended (textOf i st) l) emptyText n
     further-here Version st l n e = torn false e refl
     further-here Formula st l n e = torn false e refl
     further-here BlockId st l n e = torn false e refl
     further-here Atoms st l n e = torn false e refl
     further-here (Rows m) st l n e = torn false e refl
     further-here (Xyz x) st l n e = torn false e refl
+    further-here Handedness st l n e = torn false e refl
     further-here End st l n e = torn false e refl
     further-here Skipped st l n e = torn false e refl
 
@@ -120,24 +149,26 @@ module _ (k : ℕ) where
     apart j e q = torn (eqb i j) (eq-eqb i j q) e
 
     value-other : (h : Holds) (st : State) (from : ℕ) (v : Bytes) → holdsText i h ≡ false → textOf i (afterValue k h st from v) ≡ textOf i st
-    value-other (Text j) st from v e = getD-set-other (st .texts) j i (prose from v) none (apart j e)
+    value-other (Text j) st from v e = getD-set-other (st .texts) j i (prose from v) emptyText (apart j e)
     value-other Version st from v e = refl
-    value-other Formula st from v e = ap (λ (ts : List Prose). getD ts i none) (texts-formula k st (formulaShape (strip v)))
-    value-other BlockId st from v e = ap (λ (ts : List Prose). getD ts i none) (texts-id k st (number (field 0 (fields (strip v)))))
-    value-other Atoms st from v e = ap (λ (ts : List Prose). getD ts i none) (texts-atoms k st (rowOn atomShape (fields (strip v))))
-    value-other (Rows m) st from v e = ap (λ (ts : List Prose). getD ts i none) (texts-list k m st (map ordered (rowOn (rowShape m) (fields (strip v)))))
-    value-other (Xyz x) st from v e = ap (λ (ts : List Prose). getD ts i none) (texts-xyz k x st (fields (strip v)))
+    value-other Formula st from v e = ap (λ (ts : List Prose). getD ts i emptyText) (texts-formula k st (formulaShape (strip v)))
+    value-other BlockId st from v e = ap (λ (ts : List Prose). getD ts i emptyText) (texts-id k st (number (field 0 (fields (strip v)))))
+    value-other Atoms st from v e = ap (λ (ts : List Prose). getD ts i emptyText) (texts-atoms k st (rowOn atomShape (fields (strip v))))
+    value-other (Rows m) st from v e = ap (λ (ts : List Prose). getD ts i emptyText) (texts-list k m st (map ordered (rowOn (rowShape m) (fields (strip v)))))
+    value-other (Xyz x) st from v e = ap (λ (ts : List Prose). getD ts i emptyText) (texts-xyz k x st (fields (strip v)))
+    value-other Handedness st from v e = ap (λ (ts : List Prose). getD ts i emptyText) (texts-yes k st (rowOn yesShape (fields (strip v))))
     value-other End st from v e = refl
     value-other Skipped st from v e = refl
 
     further-other : (h : Holds) (st : State) (l : Bytes) → holdsText i h ≡ false → textOf i (afterFurther k h st l) ≡ textOf i st
-    further-other (Text j) st l e = getD-set-other (st .texts) j i _ none (apart j e)
+    further-other (Text j) st l e = getD-set-other (st .texts) j i _ emptyText (apart j e)
     further-other Version st l e = refl
     further-other Formula st l e = refl
     further-other BlockId st l e = refl
-    further-other Atoms st l e = ap (λ (ts : List Prose). getD ts i none) (texts-atoms k st (rowOn atomShape (fields (strip l))))
-    further-other (Rows m) st l e = ap (λ (ts : List Prose). getD ts i none) (texts-list k m st (map ordered (rowOn (rowShape m) (fields (strip l)))))
-    further-other (Xyz x) st l e = ap (λ (ts : List Prose). getD ts i none) (texts-xyz-further k x st (fields (strip l)))
+    further-other Atoms st l e = ap (λ (ts : List Prose). getD ts i emptyText) (texts-atoms k st (rowOn atomShape (fields (strip l))))
+    further-other (Rows m) st l e = ap (λ (ts : List Prose). getD ts i emptyText) (texts-list k m st (map ordered (rowOn (rowShape m) (fields (strip l)))))
+    further-other (Xyz x) st l e = ap (λ (ts : List Prose). getD ts i emptyText) (texts-xyz-further k x st (fields (strip l)))
+    further-other Handedness st l e = ap (λ (ts : List Prose). getD ts i emptyText) (texts-yes k st (rowOn yesShape (fields (strip l))))
     further-other End st l e = refl
     further-other Skipped st l e = refl
 
@@ -204,7 +235,7 @@ module _ (k : ℕ) where
               ∙ sym (ap (λ (s : Bytes). prose (textOf i st .place) (textOf i st .body ++ s)) (until-label l ls (labelled-label l x v e)) ∙ ap (prose (textOf i st .place)) (append-nil (textOf i st .body)))
 
       -- BEFORE ITS RECORD there is none
-      text-nil : (at : ℕ) → textFrom i at [] ≡ none
+      text-nil : (at : ℕ) → textFrom i at [] ≡ emptyText
       unfolding textFrom
       text-nil at = refl
 
@@ -226,13 +257,13 @@ module _ (k : ℕ) where
       other-starts h Unparted r e = r
       other-starts h (Labelled x v) r e = e
 
-      pub text-is : (st : State) (ls : List Bytes) → textOf i st ≡ none → holdsText i (st .running) ≡ false → i < length (st .texts) → along k (placed k) st ls ≡ true → along k parted st ls ≡ true → textOf i (afters k st ls) ≡ textFrom i (st .at) ls
+      pub text-is : (st : State) (ls : List Bytes) → textOf i st ≡ emptyText → holdsText i (st .running) ≡ false → i < length (st .texts) → along k (placed k) st ls ≡ true → along k parted st ls ≡ true → textOf i (afters k st ls) ≡ textFrom i (st .at) ls
       unfolding along afters after
       text-is st [] o r n p u = o ∙ sym (text-nil (st .at))
       text-is st (l ∷ ls) o r n p u = by (startsText i (lineOf l)) refl (and-parts (placed k st l) (along k (placed k) (after k st l) ls) p .1) (and-parts (parted st l) (along k parted (after k st l) ls) u .1) (text-is (after k st l) ls)
         where
           by : (b : Bool) → startsText i (lineOf l) ≡ b → along k (placed k) (after k st l) ls ≡ true → along k parted (after k st l) ls ≡ true
-              → (textOf i (after k st l) ≡ none → holdsText i (after k st l .running) ≡ false → i < length (after k st l .texts) → along k (placed k) (after k st l) ls ≡ true → along k parted (after k st l) ls ≡ true → textOf i (afters k (after k st l) ls) ≡ textFrom i (after k st l .at) ls)
+              → (textOf i (after k st l) ≡ emptyText → holdsText i (after k st l .running) ≡ false → i < length (after k st l .texts) → along k (placed k) (after k st l) ls ≡ true → along k parted (after k st l) ls ≡ true → textOf i (afters k (after k st l) ls) ≡ textFrom i (after k st l .at) ls)
               → textOf i (afters k (after k st l) ls) ≡ textFrom i (st .at) (l ∷ ls)
           by true e q w ih =
               let x : (textOf i (after k st l) ≡ prose (st .at + (length l - length (valueOf (lineOf l)))) (valueOf (lineOf l))) × (codeSeen c (labelOn (lineOf l)) ≡ true) × (holdsText i (runsOn (st .running) (lineOf l)) ≡ true) =
@@ -244,7 +275,7 @@ module _ (k : ℕ) where
               ih (after-other st l a ∙ o) (after-holds st l ∙ a) (omega (arith, after-count st l, n)) q w ∙ ap (λ (m : ℕ). textFrom i m ls) (after-at st l) ∙ sym (text-cons (st .at) l ls false e)
 
   -- THE THREE
-  three : (ts : List Prose) → length ts ≡ 3 → ts ≡ getD ts 0 none ∷ getD ts 1 none ∷ getD ts 2 none ∷ []
+  three : (ts : List Prose) → length ts ≡ 3 → ts ≡ getD ts 0 emptyText ∷ getD ts 1 emptyText ∷ getD ts 2 emptyText ∷ []
   three [] h = absurd (omega (arith, h))
   three (a ∷ []) h = absurd (omega (arith, h))
   three (a ∷ b ∷ []) h = absurd (omega (arith, h))

@@ -1,4 +1,4 @@
--- The demands of document 01, as document 02, L2, has changed them, and what L2 asks: each in its words and in one statement, proved by one citation. Nothing else
+-- The demands of document 01, as document 02, L2 and L4, has changed them, and what L2 and L4 ask: each in its words and in one statement, proved by one citation. Nothing else
 -- stands in this file. Assumes nothing.
 use Prim.Native.Nat.{ℕ, _+_, _*_, _^_, _≤_, _<_}
 use mathlib.Core.Path.{_≡_}
@@ -29,11 +29,13 @@ use Rattle.demands.specs.Cases.{judged}
 use Rattle.demands.specs.Starred.{starred}
 use Rattle.demands.specs.Neighbours.{neighbours}
 use Rattle.demands.specs.Placings.{placings}
-use Rattle.demands.specs.Examples.{formicInput, formicWritten, formicTable, placedNeon, placedPositions, neon, wrongNeon, exampleFile, printedAll, exampleLines}
+use Rattle.demands.specs.Handings.{handings}
+use Rattle.demands.specs.Examples.{formicInput, formicWritten, formicTable, placedNeon, placedPositions, cycloocteneInput, cycloocteneWritten, cycloocteneTable, neon, wrongNeon, exampleFile, printedAll, exampleLines}
 use Rattle.demands.specs.Stretches.{closing, opening, moved, _then_, textsTold, textsFrom, Chain, straysAdjoin, titleInStray, steps}
 use Rattle.demands.specs.WayBack.{ReadBack, TableBack, WrittenAgain, OneBlock}
 use Rattle.demands.specs.Accepted.{xyzRows, factorIn, Obeys, _exactlyWhen_}
 use Rattle.demands.specs.Positions.{AllNear, PositionTold}
+use Rattle.demands.specs.Handed.{numberAt, HandedTold, HandedAlone}
 use Rattle.demands.specs.ReadAs.{structureIn, spansIn, geometryIn}
 use Rattle.demands.specs.ReadWritten.{formIn}
 use Rattle.demands.specs.Places.{numbersAt, atomNumbers}
@@ -53,6 +55,7 @@ use Rattle.demands.proofs.TextsTold as told
 use Rattle.demands.proofs.Strays as strays
 use Rattle.demands.proofs.Positions as positions
 use Rattle.demands.proofs.PositionsGiven as given
+use Rattle.demands.proofs.Handed as handed
 use Rattle.demands.proofs.Today as today
 
 -- DEMAND 1
@@ -72,12 +75,13 @@ refused-write = refused.refused-write
 -- DEMAND 2
 -- a block is accepted exactly when each line breaks no rule of its own, MOLFORM says a formula by the grammar, the labels stand in order, no two rows of one list clash,
 -- the lists keep their limits, the required records are there, the formula's totals are the atoms' for every element and mass, the rows of XYZ name listed atoms, ascend
--- and keep MAX_XYZ, which stands with XYZ_FACTOR and XYZ or not at all, and one END line stands there with only blanks behind it
+-- and keep MAX_XYZ, which stands with XYZ_FACTOR and XYZ or not at all, STEREOMOLECULE has its YES once and no row of STEREOCENTER or STEREOPAIR beside it, and one END
+-- line stands there with only blanks behind it
 pub accepted-iff : (k : ℕ) (b : Bytes) (l : Lent) → short l ≡ false → (readResult k b l .number ≡ 0) exactlyWhen Obeys k b
 accepted-iff = accepted.accepted-iff
 
--- and its table is then, number for number, that of its atoms in order, of the rows of each list sorted and without repeats, of its block id and of its texts; and
--- its positions are those of its factor and its rows of XYZ
+-- and its table is then, number for number, that of its atoms in order, of the rows of each list sorted and without repeats, of its block id, of its YES and of its
+-- texts; and its positions are those of its factor and its rows of XYZ
 pub table-is : (k : ℕ) (b : Bytes) (l : Lent) → short l ≡ false → Obeys k b → readResult k b l ≡ readAnswer 0 0 (overlaid (encode (structureIn k b) (spansIn b)) (positionTable (geometryIn b)) l)
 table-is = read.table-is
 
@@ -197,6 +201,25 @@ placings-hold = worked.placings-hold
 
 pub placed-read : readResult 103 (bytes placedNeon) ample .after .positions ≡ placedPositions
 placed-read = worked.placed-read
+
+-- DOCUMENT 02, L4
+-- "Table number 13 becomes 1": in the table after every accepted reading number 13 is 1 exactly when the block has the YES of STEREOMOLECULE, and else 0
+pub handed-given : (k : ℕ) (b : Bytes) (l : Lent) → short l ≡ false → readResult k b l .number ≡ 0 → HandedTold b (readResult k b l .after .table)
+handed-given = handed.handed-given
+
+-- "A sound table with 13 set has no centres and no pairs.": where 13 is not 0 it is 1, and the counts of both are 0
+pub handed-alone : (k : ℕ) (t : List ℤ) (b : Bytes) → sound k t b ≡ true → (numberAt 13 t ≡ pos 0 → ⊥) → HandedAlone t
+handed-alone = handed.handed-alone
+
+-- cases of the label; and a ring that is handed as a whole: read to its table, number for number, and written with the YES behind all other records, byte for byte
+pub handings-hold : map judged handings ≡ map (λ c. c .answer) handings
+handings-hold = worked.handings-hold
+
+pub cyclooctene-read : readResult 103 (bytes cycloocteneInput) ample ≡ readAnswer 0 0 (lent cycloocteneTable (noughts 1024))
+cyclooctene-read = worked.cyclooctene-read
+
+pub cyclooctene-written : writeResult 103 cycloocteneTable (bytes cycloocteneInput) (replicate 294 7) ≡ record { number = 0; count = 292; buffer = bytes cycloocteneWritten ++ (7 ∷ 7 ∷ []) }
+cyclooctene-written = worked.cyclooctene-written
 
 -- DEMAND 3
 -- "Take a file of three stretches, within the file limit: the first empty or ending with a block closed by its END line and line feed; the second anything,

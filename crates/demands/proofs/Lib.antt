@@ -19,8 +19,10 @@ pub mod WayBackDecoded
 pub mod WayBackSound
 pub mod WayBackTables
 pub mod PlacesHold
-pub mod AcceptedSteps
+pub mod AcceptedHolds
 pub mod AcceptedContents
+pub mod AcceptedAfter
+pub mod AcceptedSteps
 pub mod AcceptedState
 pub mod AcceptedLines
 pub mod AcceptedRows
@@ -28,7 +30,9 @@ pub mod AcceptedOrder
 pub mod AcceptedOnce
 pub mod AcceptedFormula
 pub mod AcceptedGeometry
+pub mod AcceptedYes
 pub mod AcceptedTexts
+pub mod AcceptedTests
 pub mod Accepted
 pub mod ReadAs
 pub mod AcceptedSoundShapes
@@ -38,5 +42,6 @@ pub mod AcceptedSound
 pub mod TextsTold
 pub mod Positions
 pub mod PositionsGiven
+pub mod Handed
 pub mod Today
 pub mod Demands

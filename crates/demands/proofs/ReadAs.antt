@@ -1,5 +1,5 @@
--- What an accepted block is read as: its atoms in order, the rows of each list without repeats and sorted, its block id, and its texts where their records
--- stand; so the table, number for number, is said of the block's lines alone. Document 01, "The structure table". Assumes nothing.
+-- What an accepted block is read as: its atoms in order, the rows of each list without repeats and sorted, its block id, its YES, and its texts where their
+-- records stand; so the table, number for number, is said of the block's lines alone. Document 01, "The structure table". Assumes nothing.
 use Prim.Native.Nat.{ℕ}
 use mathlib.Core.Path.{_≡_, refl, sym, ap, _∙_}
 use mathlib.Core.Bool.{Bool, true, false, _&&_}
@@ -23,17 +23,19 @@ use Rattle.demands.specs.Accepted.{listRows, toldOf, Obeys}
 use Rattle.demands.specs.ReadAs.{idsIn, idAs, structureIn, spansIn, geometryIn}
 use Rattle.demands.proofs.AcceptedContents.{rowOf, rows-are, ids-are}
 use Rattle.format.proofs.RefusedLaws.{long-read}
-use Rattle.demands.proofs.AcceptedSteps.{afters, along, keeps, when, acceptedAs, read-is}
+use Rattle.demands.proofs.AcceptedAfter.{afters}
+use Rattle.demands.proofs.AcceptedSteps.{along, keeps, when, acceptedAs, read-is}
 use Rattle.demands.proofs.AcceptedRows.{afters-rows}
 use Rattle.demands.proofs.AcceptedOnce.{id-is}
 use Rattle.demands.proofs.AcceptedTexts.{texts-are}
-use Rattle.demands.proofs.Accepted.{start-rows, says-atoms, says-geometry, tests-kept, all-kept, end-reached}
+use Rattle.demands.proofs.AcceptedTests.{start-rows}
+use Rattle.demands.proofs.Accepted.{says-atoms, says-geometry, says-yes, tests-kept, all-kept, end-reached}
 
 -- a structure by its parts
-abbrev built : List Atom → (ListOf → List Row) → ℕ → Structure
-built as′ rows n = record { atoms = as′; bonds = rows Bonds; charges = rows Charges; radicals = rows Radicals; centres = rows Centres; pairs = rows Pairs; id = n }
+abbrev built : List Atom → (ListOf → List Row) → ℕ → Bool → Structure
+built as′ rows n y = record { atoms = as′; bonds = rows Bonds; charges = rows Charges; radicals = rows Radicals; centres = rows Centres; pairs = rows Pairs; id = n; handed = y }
 
-finished-is : (s : Structure) → finished s ≡ built (s .atoms) (λ l. sort rowBefore (rowsOf l s)) (s .id)
+finished-is : (s : Structure) → finished s ≡ built (s .atoms) (λ l. sort rowBefore (rowsOf l s)) (s .id) (s .handed)
 unfolding finished rowsOf
 finished-is s = refl
 
@@ -67,7 +69,7 @@ module _ (k : ℕ) (b : Bytes) (y : Obeys k b) where
   structure-is : finished (last .body) ≡ structureIn k b
   structure-is =
       finished-is (last .body)
-      ∙ rw (says-atoms k b, last-rows Bonds, last-rows Charges, last-rows Radicals, last-rows Centres, last-rows Pairs, last-id)
+      ∙ rw (says-atoms k b, last-rows Bonds, last-rows Charges, last-rows Radicals, last-rows Centres, last-rows Pairs, last-id, says-yes k b)
 
   spans-are : map spanOf (last .texts) ≡ spansIn b
   spans-are = ap (map spanOf) (texts-are k (cut b) (tests-kept k b y .ordered-labels) (tests-kept k b y .parted))

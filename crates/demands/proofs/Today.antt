@@ -6,6 +6,7 @@ use Rattle.demands.proofs.Accepted as accepted
 use Rattle.demands.proofs.AcceptedSound as kept
 use Rattle.demands.proofs.ReadAs as read
 use Rattle.demands.proofs.PositionsGiven as given
+use Rattle.demands.proofs.Handed as handed
 use Rattle.demands.proofs.Refused as refused
 use Rattle.demands.proofs.Stretches as stretches
 use Rattle.demands.proofs.TextsTold as told
@@ -30,6 +31,8 @@ demand-2 = record {
   read-sound = λ b s spans g. kept.read-sound 103 b s spans g one;
   accepted-sound = λ b t. kept.accepted-sound 103 b t one;
   positions-given = given.positions-given 103;
+  handed-given = handed.handed-given 103;
+  handed-alone = handed.handed-alone 103;
   read-written = λ b t. kept.read-written 103 b t one;
   read-then-written = λ b t. kept.read-then-written 103 b t one;
   read-written-read = λ b t wide given buffer into. kept.read-written-read 103 b t one wide given buffer into most;

@@ -2,36 +2,39 @@
 -- texts. Put together from the records one after another. Assumes nothing.
 use Prim.Native.Nat.{ℕ, zero, suc, _+_, _≤_}
 use mathlib.Core.Path.{_≡_, refl, sym, ap, _∙_}
-use mathlib.Core.Bool.{Bool, true, false}
-use mathlib.Core.List.{List, [], _∷_, _++_, map, append-assoc}
+use mathlib.Core.Bool.{Bool, true, false, not, _||_}
+use mathlib.Core.List.{List, [], _∷_, _++_, map, append-assoc, reverse, append-nil}
 use native.Mathlib.Omega.{arith}
 use native.Mathlib.Nat.{add-zero}
 use lib.ListN.{length, length-append}
 use lib.Dec.{leb}
-use borrow.Author.Tests.{leb-true, le-ltb}
+use borrow.Author.Tests.{leb-true, le-ltb, not-true}
 use Rattle.lists.specs.Lists.{isNil, all, any, concat, flat}
 use Rattle.lists.proofs.Bools.{and-parts}
-use Rattle.lists.proofs.ListLaws.{all-parts}
+use Rattle.lists.proofs.ListLaws.{all-parts, same-none}
+use Rattle.lists.proofs.SortLaws.{perm-length}
+use Rattle.lists.proofs.FoldLaws.{reverse-perm}
 use Rattle.format.specs.Bytes.{Bytes, bytes, within, cut}
 use Rattle.format.specs.Labels.{ListOf, Bonds, Charges, Radicals, Centres, Pairs, Holds, Text, BlockId, Formula, Atoms, Label, misplaced}
 use Rattle.format.specs.Coordinates.{noGeometry}
-use Rattle.format.specs.Structure.{Atom, entriesOf, Structure, rowsOf, lists, atomOk, rowsOk, wellFormed}
+use Rattle.format.specs.Structure.{Atom, entriesOf, Structure, rowsOf, lists, atomOk, rowsOk, wellFormed, handedTwice}
 use Rattle.format.specs.Reading.{Rules, strict, State, Prose, prose, over, lacks, readLines, start, Accepted, finished, Span, spanOf, Read, readingOf, readBlock}
 use Rattle.format.specs.Table.{textFine, textAt, textOk}
-use Rattle.format.specs.Writing.{formulaBefore, formulaOf, fragment, printFormula, valued, printRecord, printId, printAtoms, printRows, records, canonical}
+use Rattle.format.specs.Writing.{formulaBefore, formulaOf, fragment, printFormula, valued, printRecord, printId, printAtoms, printRows, records, canonical, printYes}
 use Rattle.format.proofs.ByteLaws.{within-true}
 use Rattle.format.proofs.RowLaws.{FineAtom, atom-fine}
 use Rattle.format.proofs.TotalLaws.{gathered-agree}
 use Rattle.format.proofs.Computing.{computing}
+use Rattle.format.specs.Rows.{Row}
 use Rattle.demands.specs.WayBack.{ReadBack}
 use Rattle.demands.proofs.WayBackLines.{stateOf, Through, through-nil, through-to}
-use Rattle.demands.proofs.WayBackLabels.{titleLabel, versionLabel, originLabel, ownerLabel, idLabel, formulaLabel, atomsLabel, free}
+use Rattle.demands.proofs.WayBackLabels.{titleLabel, versionLabel, originLabel, ownerLabel, idLabel, formulaLabel, atomsLabel, free, yesLabel, endLabel}
 use Rattle.demands.proofs.WayBackTexts.{spanned, span-is, Stands, span-at, span-ok}
 use Rattle.demands.proofs.WayBackRows.{sorted-back}
 use Rattle.demands.proofs.WayBackAtoms.{atoms-label, atoms-through}
 use Rattle.demands.proofs.WayBackFormula.{gathered, formula-through}
 use Rattle.demands.proofs.WayBackRecords.{blankWith, threeTexts, begin, start-is, title-through, version-through, origin-through, owner-through, id-through}
-use Rattle.demands.proofs.WayBackLists.{FineRows, rows-fine, Stage, AcceptedAs, end-stage, bareOf, turned, listLabels, lists-stage}
+use Rattle.demands.proofs.WayBackLists.{FineRows, rows-fine, Stage, AcceptedAs, end-stage, bareOf, turned, listLabels, lists-stage, turnedTo, yes-stage}
 
 -- WHAT A WELL-FORMED STRUCTURE KEEPS
 pub record Fine (k : ℕ) (s : Structure) : Type 0 where
@@ -40,6 +43,7 @@ pub record Fine (k : ℕ) (s : Structure) : Type 0 where
   pub atoms : all (atomOk k) (s .atoms) ≡ true
   pub rows : (l : ListOf) → FineRows l (length (s .atoms)) (rowsOf l s)
   pub id : s .id ≤ 999999
+  pub once : handedTwice s ≡ false
 
 each-list : (p : ListOf → Bool) → all p lists ≡ true → (l : ListOf) → p l ≡ true
 unfolding lists
@@ -64,13 +68,15 @@ fine-structure k s h =
     let n : ℕ = length (s .atoms) in
     let p = and-parts (within 1 256 n) _ h in
     let q = and-parts (all (atomOk k) (s .atoms)) _ (p .1) in
-    let r = and-parts (all (rowsOk n s) lists) (leb (s .id) 999999) (q .1) in
+    let r = and-parts (all (rowsOk n s) lists) _ (q .1) in
+    let t = and-parts (leb (s .id) 999999) (not (handedTwice s)) (r .1) in
     record {
       low = within-true 1 256 n (p .0) .0;
       high = within-true 1 256 n (p .0) .1;
       atoms = q .0;
       rows = λ l. rows-fine n s l (each-list (rowsOk n s) (r .0) l);
-      id = leb-true (s .id) 999999 (r .1);
+      id = leb-true (s .id) 999999 (t .0);
+      once = not-true (handedTwice s) (t .1);
     }
 
 -- BLOCK_ID, left out where it is 0: what is seen and what runs behind it
@@ -130,6 +136,11 @@ unfolding computing
 all-spare zero = refl
 all-spare (suc n) = refl
 
+no-yes : (n : ℕ) → (lacks (atomsLabel ∷ formulaLabel ∷ idSeen n) 17 || false) ≡ true
+unfolding computing
+no-yes zero = refl
+no-yes (suc n) = refl
+
 version-free : misplaced (titleLabel ∷ []) versionLabel ≡ false
 unfolding computing
 version-free = refl
@@ -174,8 +185,11 @@ module _ (k : ℕ) (most : k ≤ 103) (s : Structure) (ok : Fine k s) (t0 t1 t2 
   abbrev ended : Bytes
   ended = (bytes "##END=" ++ valued []) ++ []
 
+  abbrev yes-on : Bytes
+  yes-on = printYes (s .handed) ++ ended
+
   abbrev lists-on : Bytes
-  lists-on = flat (λ l. printRows l (rowsOf l s)) lists ++ ended
+  lists-on = flat (λ l. printRows l (rowsOf l s)) lists ++ yes-on
 
   abbrev texts-on : Bytes
   texts-on = printId (s .id) ++ (formula ++ (label-line ++ (printAtoms 1 (s .atoms) ++ lists-on)))
@@ -230,6 +244,17 @@ module _ (k : ℕ) (most : k ≤ 103) (s : Structure) (ok : Fine k s) (t0 t1 t2 
       elements : 1 ≤ k
       elements = first-element k (s .atoms) (ok .low) (ok .atoms)
 
+  handed-on : (y : Bool) → Stage u begin form texts (gathered (s .atoms)) (turnedTo false s) (yesLabel ∷ endLabel ∷ []) (printYes y ++ ended) → Stage u begin form texts (gathered (s .atoms)) (turnedTo y s) (endLabel ∷ []) ended
+  handed-on true g = yes-stage u begin form texts (gathered (s .atoms)) (turnedTo false s) ended g refl
+  handed-on false g = record { at = g .at; seen = g .seen; running = g .running; begun = g .begun; runs = g .runs; clear = all-parts (free (g .seen)) yesLabel (endLabel ∷ []) (g .clear) .1; had = g .had; spare = g .spare; given = g .given; reads = g .reads }
+
+  none-turned : (rs : List Row) → isNil (reverse rs) ≡ isNil rs
+  none-turned rs = same-none (reverse rs) rs (perm-length (reverse-perm rs []) ∙ ap length (append-nil rs))
+
+  once-turned : handedTwice (turned s) ≡ false
+  unfolding handedTwice
+  once-turned = rw (none-turned (s .centres), none-turned (s .pairs)) (ok .once)
+
   accepted : AcceptedAs u begin form texts (gathered (s .atoms)) (turned s)
   accepted =
       let g : Stage u begin form texts (gathered (s .atoms)) (bareOf (s .atoms) (s .id)) listLabels lists-on =
@@ -242,9 +267,10 @@ module _ (k : ℕ) (most : k ≤ 103) (s : Structure) (ok : Fine k s) (t0 t1 t2 
         clear = lists-free (s .id);
         had = all-had (s .id);
         spare = all-spare (s .id);
+        given = no-yes (s .id);
         reads = atoms-read;
       } in
-      end-stage u begin form texts (gathered (s .atoms)) (turned s) (lists-stage u begin form texts (gathered (s .atoms)) s (omega (arith, ok .high)) (ok .rows) ended g) (ok .low) (gathered-agree formulaBefore (entriesOf (s .atoms)))
+      end-stage u begin form texts (gathered (s .atoms)) (turned s) (handed-on (s .handed) (lists-stage u begin form texts (gathered (s .atoms)) s (omega (arith, ok .high)) (ok .rows) yes-on g)) once-turned (ok .low) (gathered-agree formulaBefore (entriesOf (s .atoms)))
 
   -- THE SPANS
   abbrev spans : List Span

@@ -18,13 +18,14 @@ use Rattle.format.specs.Labels.{ListOf, Label, misplaced, Line, Plain, Unparted
 use Rattle.format.specs.Rows.{Row}
 use Rattle.format.specs.Coordinates.{Geometry}
 use Rattle.format.specs.Structure.{Atom, Structure, rowsOf, lists, entriesOf}
-use Rattle.format.specs.Writing.{digits, line, atomWords, printAtoms, rowWords, formulaOf, fragment, printFormula, valued, printRecord, printId, listLabel, printRows, records, canonical}
+use Rattle.format.specs.Writing.{digits, line, atomWords, printAtoms, rowWords, formulaOf, fragment, printFormula, valued, printRecord, printId, listLabel, printRows, printYes, records, canonical}
 use Rattle.format.specs.Reading.{Rules, State, Go, if_stop_else_, past, noted, lacks, lineTurn, lineStep, Outcome, Accepted, Refused, readLines, start, Span, Read, Unread, readingOf, readBlock}
 use Rattle.format.proofs.Computing.{computing}
 use Rattle.format.proofs.CutLaws.{cut-first, cut-append}
 use Rattle.format.proofs.RowLines.{body, line-is}
 use Rattle.format.proofs.TextLaws.{whole-snoc, valued-whole}
-use Rattle.format.proofs.ReadingLaws.{stop-go, Went, further, started, step-went, Goes, accepted-by}
+use Rattle.format.proofs.LeadLaws.{stop-go}
+use Rattle.format.proofs.ReadingLaws.{Went, further, started, step-went, Goes, accepted-by}
 use Rattle.demands.specs.WayBack.{OneBlock}
 use Rattle.demands.proofs.WayBackLabels.{noted-known, lacks-more}
 
@@ -171,6 +172,10 @@ unfolding printRows
 rows-whole l [] = whole-nil
 rows-whole l (r ∷ rs) = whole-append true (printRecord (listLabel l) []) _ (record-whole (listLabel l) []) (whole-flat (λ (x : Row). line (rowWords l x)) (λ x. line-whole (rowWords l x)) (r ∷ rs))
 
+yes-whole : (y : Bool) → whole (printYes y) ≡ true
+yes-whole true = record-whole "##STEREOMOLECULE=" (bytes "YES")
+yes-whole false = whole-nil
+
 -- THE LINES OF A FORM
 module _ (s : Structure) (texts : List Bytes) where
   -- all records but END
@@ -185,6 +190,7 @@ module _ (s : Structure) (texts : List Bytes) where
       ∷ printRecord "##ATOMLIST=" []
       ∷ printAtoms 1 (s .atoms)
       ∷ flat (λ l. printRows l (rowsOf l s)) lists
+      ∷ printYes (s .handed)
       ∷ []
 
   front-whole : all whole front ≡ true
@@ -200,6 +206,7 @@ module _ (s : Structure) (texts : List Bytes) where
         record-whole "##ATOMLIST=" [],
         atoms-whole 1 (s .atoms),
         whole-flat (λ (l : ListOf). printRows l (rowsOf l s)) (λ l. rows-whole l (rowsOf l s)) lists,
+        yes-whole (s .handed),
       ) refl
 
   form-parts : canonical s texts ≡ concat front ++ bytes "##END=\n"

@@ -12,7 +12,7 @@ use Rattle.lists.specs.Lists.{isNil, all, any}
 use Rattle.lists.proofs.Bools.{not-of-false}
 use Rattle.lists.proofs.ListLaws.{all-parts, all-both, all-nil, all-append-both, any-neither, any-cons, any-imply, any-miss}
 use Rattle.format.specs.Bytes.{Bytes, bytes, allowed}
-use Rattle.format.specs.Labels.{ListOf, Bonds, Charges, Radicals, Centres, Pairs, Holds, Text, Version, Formula, BlockId, Atoms, Rows, End, Label, label, misplaced, Labelled, lineOf, titleLine}
+use Rattle.format.specs.Labels.{ListOf, Bonds, Charges, Radicals, Centres, Pairs, Holds, Text, Version, Formula, BlockId, Atoms, Rows, End, Label, label, misplaced, Labelled, lineOf, titleLine, Handedness}
 use Rattle.format.specs.Reading.{Rules, State, lacks, over, noted, opened, valueTurn, lineStep}
 use Rattle.format.specs.Writing.{listLabel}
 use Rattle.format.proofs.CutLaws.{feedless}
@@ -42,6 +42,9 @@ idLabel = label "BLOCKID" BlockId 12 3 9
 
 abbrev pub endLabel : Label
 endLabel = label "END" End 13 10 10
+
+abbrev pub yesLabel : Label
+yesLabel = label "STEREOMOLECULE" Handedness 17 9 9
 
 abbrev pub labelOf : ListOf → Label
 labelOf Bonds = label "BONDLIST" (Rows Bonds) 7 7 7
@@ -91,6 +94,10 @@ atoms-written = record { fine = refl; one = refl; read = λ v. refl }
 pub end-written : Written (bytes "##END=") endLabel
 unfolding computing
 end-written = record { fine = refl; one = refl; read = λ v. refl }
+
+pub yes-written : Written (bytes "##STEREOMOLECULE=") yesLabel
+unfolding computing
+yes-written = record { fine = refl; one = refl; read = λ v. refl }
 
 pub list-written : (l : ListOf) → Written (bytes (listLabel l)) (labelOf l)
 unfolding computing
@@ -146,7 +153,7 @@ lacks-more y seen c h = go (eqb (y .code) c) refl
     go true e = rw (any-cons (λ (x : Label). eqb (x .code) c) y seen, e)
     go false e = rw (any-cons (λ (x : Label). eqb (x .code) c) y seen, e) h
 
-lacks-other : (y : Label) (seen : List Label) (c : ℕ) → eqb (y .code) c ≡ false → lacks (y ∷ seen) c ≡ lacks seen c
+pub lacks-other : (y : Label) (seen : List Label) (c : ℕ) → eqb (y .code) c ≡ false → lacks (y ∷ seen) c ≡ lacks seen c
 unfolding lacks
 lacks-other y seen c h = ap not (any-miss (λ (x : Label). eqb (x .code) c) y seen h)
 

@@ -1,29 +1,29 @@
 -- The way back, from the atoms on: the five lists in their order and END, whichever of the lists are left out. Serves document 01, demand 2. Assumes nothing.
 use Prim.Native.Nat.{ℕ, _+_, _≤_, _<_}
 use mathlib.Core.Path.{_≡_, refl, ap, _∙_}
-use mathlib.Core.Bool.{true, false, not}
+use mathlib.Core.Bool.{Bool, true, false, not, _||_}
 use mathlib.Core.List.{List, [], _∷_, _++_, reverse}
 use lib.ListN.{length}
 use lib.Dec.{leb}
 use borrow.Author.Tests.{leb-true, not-true}
 use Rattle.lists.specs.Lists.{isNil, all, any, pairs, flat}
 use Rattle.lists.specs.Order.{ascends}
-use Rattle.lists.proofs.Bools.{and-parts}
+use Rattle.lists.proofs.Bools.{and-parts, or-right}
 use Rattle.lists.proofs.ListLaws.{all-parts}
 use Rattle.lists.proofs.PartLaws.{flat-nil, flat-behind}
 use Rattle.format.specs.Bytes.{Bytes, bytes, cut}
-use Rattle.format.specs.Labels.{ListOf, Bonds, Charges, Radicals, Centres, Pairs, Holds, End, Label, label, misplaced}
+use Rattle.format.specs.Labels.{ListOf, Bonds, Charges, Radicals, Centres, Pairs, Holds, Handedness, End, Label, label, misplaced}
 use Rattle.format.specs.Rows.{Row}
 use Rattle.format.specs.Coordinates.{noGeometry}
-use Rattle.format.specs.Structure.{Atom, Entry, entriesOf, agree, Structure, rowsOf, lists, most, meets, rowBefore, rowOk, rowsOk}
-use Rattle.format.specs.Reading.{Rules, State, Prose, over, lacks, withRows, Accepted, readLines}
-use Rattle.format.specs.Writing.{valued, printRows}
+use Rattle.format.specs.Structure.{Atom, Entry, entriesOf, agree, Structure, rowsOf, handedTwice, lists, most, meets, rowBefore, rowOk, rowsOk}
+use Rattle.format.specs.Reading.{Rules, State, Prose, over, lacks, withYes, withRows, Accepted, readLines}
+use Rattle.format.specs.Writing.{valued, printRecord, printYes, printRows}
 use Rattle.format.proofs.CutLaws.{cut-nil}
 use Rattle.format.proofs.ReadingLaws.{read-end}
 use Rattle.demands.proofs.WayBackLines.{stateOf}
-use Rattle.demands.proofs.WayBackLabels.{labelOf, endLabel, free, follows, had-more, spare-more}
-use Rattle.demands.proofs.WayBackRows.{seenWith, runsWith, seen-begun, runs-open, seen-free, seen-had, seen-spare, list-through}
-use Rattle.demands.proofs.WayBackRecords.{end-through}
+use Rattle.demands.proofs.WayBackLabels.{labelOf, yesLabel, endLabel, free, follows, free-more, had-more, spare-more, lacks-other}
+use Rattle.demands.proofs.WayBackRows.{seenWith, runsWith, seen-begun, runs-open, seen-free, seen-had, seen-yes, seen-spare, list-through}
+use Rattle.demands.proofs.WayBackRecords.{yes-through, end-through}
 
 -- WHAT A LIST OF A WELL-FORMED STRUCTURE KEEPS
 pub record FineRows (l : ListOf) (n : ℕ) (rs : List Row) : Type 0 where
@@ -51,7 +51,16 @@ pub record Stage (u : Rules) (first : State) (block : Bytes) (texts : List Prose
   pub clear : all (free seen) xs ≡ true
   pub had : any (lacks seen) (2 ∷ 3 ∷ 4 ∷ 5 ∷ []) ≡ false
   pub spare : all (lacks seen) (14 ∷ 15 ∷ 16 ∷ []) ≡ true
+  pub given : (lacks seen 17 || s .handed) ≡ true
   pub reads : readLines u first (cut block) ≡ readLines u (stateOf at seen running texts f s) (cut left)
+
+rows-handed : (l : ListOf) (rs : List Row) (s : Structure) → withRows l rs s .handed ≡ s .handed
+unfolding withRows
+rows-handed Bonds rs s = refl
+rows-handed Charges rs s = refl
+rows-handed Radicals rs s = refl
+rows-handed Centres rs s = refl
+rows-handed Pairs rs s = refl
 
 module _ (u : Rules) (first : State) (block : Bytes) (texts : List Prose) (f : List Entry) where
   -- one list more
@@ -68,14 +77,38 @@ module _ (u : Rules) (first : State) (block : Bytes) (texts : List Prose) (f : L
         clear = seen-free l rs (g .seen) xs after (c .1);
         had = seen-had l rs (g .seen) (2 ∷ 3 ∷ 4 ∷ 5 ∷ []) (g .had);
         spare = seen-spare l rs (g .seen) (g .spare);
+        given = ap (λ (t : Bool). t || withRows l (reverse rs) s .handed) (seen-yes l rs (g .seen)) ∙ ap (λ (t : Bool). lacks (g .seen) 17 || t) (rows-handed l (reverse rs) s) ∙ g .given;
         reads = g .reads ∙ list-through u l (g .at) (g .seen) (g .running) texts f s (g .begun) (g .runs) (c .0) rs n small count held (fine .fine) (fine .apart) (fine .few) left;
       }
 
-  -- END: the reading is accepted
+  -- behind these END's tests
   end-spare : (seen : List Label) → all (lacks seen) (14 ∷ 15 ∷ 16 ∷ []) ≡ true → all (lacks (endLabel ∷ seen)) (14 ∷ 15 ∷ 16 ∷ []) ≡ true
   unfolding label all
   end-spare seen h = spare-more endLabel seen (14 ∷ 15 ∷ 16 ∷ []) refl h
 
+  end-other : (seen : List Label) → lacks (endLabel ∷ seen) 17 ≡ lacks seen 17
+  unfolding label
+  end-other seen = lacks-other endLabel seen 17 refl
+
+  -- the YES, if it stands
+  pub yes-stage : (s : Structure) (left : Bytes) → Stage u first block texts f s (yesLabel ∷ endLabel ∷ []) (printYes true ++ left) → s .handed ≡ false → Stage u first block texts f (withYes s) (endLabel ∷ []) left
+  unfolding label all printRecord
+  yes-stage s left g e =
+      let c : (free (g .seen) yesLabel ≡ true) × (all (free (g .seen)) (endLabel ∷ []) ≡ true) = all-parts (free (g .seen)) yesLabel (endLabel ∷ []) (g .clear) in
+      record {
+        at = g .at + length (bytes "##STEREOMOLECULE=" ++ valued (bytes "YES"));
+        seen = yesLabel ∷ g .seen;
+        running = Handedness;
+        begun = refl;
+        runs = refl;
+        clear = free-more yesLabel (g .seen) (endLabel ∷ []) refl (c .1);
+        had = had-more yesLabel (g .seen) (2 ∷ 3 ∷ 4 ∷ 5 ∷ []) (g .had);
+        spare = spare-more yesLabel (g .seen) (14 ∷ 15 ∷ 16 ∷ []) refl (g .spare);
+        given = or-right (lacks (yesLabel ∷ g .seen) 17) true refl;
+        reads = g .reads ∙ yes-through u (g .at) (g .seen) (g .running) f s (g .begun) (g .runs) texts (not-true (misplaced (g .seen) yesLabel) (c .0)) e left;
+      }
+
+  -- END: the reading is accepted
   pub record AcceptedAs (s : Structure) : Type 0 where
     pub last : State
     pub reads : readLines u first (cut block) ≡ Accepted last
@@ -83,15 +116,15 @@ module _ (u : Rules) (first : State) (block : Bytes) (texts : List Prose) (f : L
     pub body-is : last .body ≡ s
     pub geometry-is : last .geometry ≡ noGeometry
 
-  pub end-stage : (s : Structure) → Stage u first block texts f s (endLabel ∷ []) ((bytes "##END=" ++ valued []) ++ []) → 0 < length (s .atoms) → agree f (entriesOf (s .atoms)) ≡ true → AcceptedAs s
-  end-stage s g filled agrees =
+  pub end-stage : (s : Structure) → Stage u first block texts f s (endLabel ∷ []) ((bytes "##END=" ++ valued []) ++ []) → handedTwice s ≡ false → 0 < length (s .atoms) → agree f (entriesOf (s .atoms)) ≡ true → AcceptedAs s
+  end-stage s g once filled agrees =
       let c : (free (g .seen) endLabel ≡ true) × (all (free (g .seen)) [] ≡ true) = all-parts (free (g .seen)) endLabel [] (g .clear) in
       let last : State = stateOf (g .at + length (bytes "##END=" ++ valued [])) (endLabel ∷ g .seen) End texts f s in
       record {
         last = last;
         reads =
             g .reads
-            ∙ end-through u (g .at) (g .seen) (g .running) f s (g .begun) (g .runs) texts (not-true (misplaced (g .seen) endLabel) (c .0)) (had-more endLabel (g .seen) (2 ∷ 3 ∷ 4 ∷ 5 ∷ []) (g .had)) (end-spare (g .seen) (g .spare)) filled agrees []
+            ∙ end-through u (g .at) (g .seen) (g .running) f s (g .begun) (g .runs) texts (not-true (misplaced (g .seen) endLabel) (c .0)) (had-more endLabel (g .seen) (2 ∷ 3 ∷ 4 ∷ 5 ∷ []) (g .had)) (end-spare (g .seen) (g .spare)) (ap (λ (t : Bool). t || s .handed) (end-other (g .seen)) ∙ g .given) once filled agrees []
             ∙ ap (readLines u last) cut-nil ∙ read-end u last;
         texts-are = refl;
         body-is = refl;
@@ -100,14 +133,17 @@ module _ (u : Rules) (first : State) (block : Bytes) (texts : List Prose) (f : L
 
 -- THE FIVE LISTS, all empty before
 abbrev pub bareOf : List Atom → ℕ → Structure
-bareOf atoms n = record { atoms = atoms; bonds = []; charges = []; radicals = []; centres = []; pairs = []; id = n }
+bareOf atoms n = record { atoms = atoms; bonds = []; charges = []; radicals = []; centres = []; pairs = []; id = n; handed = false }
 
--- every list latest first
+-- every list latest first, before the YES or with it
+abbrev pub turnedTo : Bool → Structure → Structure
+turnedTo y s = record { atoms = s .atoms; bonds = reverse (s .bonds); charges = reverse (s .charges); radicals = reverse (s .radicals); centres = reverse (s .centres); pairs = reverse (s .pairs); id = s .id; handed = y }
+
 abbrev pub turned : Structure → Structure
-turned s = record { atoms = s .atoms; bonds = reverse (s .bonds); charges = reverse (s .charges); radicals = reverse (s .radicals); centres = reverse (s .centres); pairs = reverse (s .pairs); id = s .id }
+turned s = turnedTo (s .handed) s
 
 abbrev pub listLabels : List Label
-listLabels = labelOf Bonds ∷ labelOf Charges ∷ labelOf Radicals ∷ labelOf Centres ∷ labelOf Pairs ∷ endLabel ∷ []
+listLabels = labelOf Bonds ∷ labelOf Charges ∷ labelOf Radicals ∷ labelOf Centres ∷ labelOf Pairs ∷ yesLabel ∷ endLabel ∷ []
 
 -- what each list gives, one by one
 pub lists-flat : {A : Type 0} (p : ListOf → List A) (left : List A) → flat p lists ++ left ≡ p Bonds ++ (p Charges ++ (p Radicals ++ (p Centres ++ (p Pairs ++ left))))
@@ -122,7 +158,7 @@ lists-flat {A = A} p left =
 
 module _ (u : Rules) (first : State) (block : Bytes) (texts : List Prose) (f : List Entry) (s : Structure) (small : length (s .atoms) < 1000000)
     (ok : (l : ListOf) → FineRows l (length (s .atoms)) (rowsOf l s)) where
-  pub lists-stage : (left : Bytes) → Stage u first block texts f (bareOf (s .atoms) (s .id)) listLabels (flat (λ l. printRows l (rowsOf l s)) lists ++ left) → Stage u first block texts f (turned s) (endLabel ∷ []) left
+  pub lists-stage : (left : Bytes) → Stage u first block texts f (bareOf (s .atoms) (s .id)) listLabels (flat (λ l. printRows l (rowsOf l s)) lists ++ left) → Stage u first block texts f (turnedTo false s) (yesLabel ∷ endLabel ∷ []) left
   unfolding rowsOf withRows label all
   lists-stage left g =
       let n : ℕ = length (s .atoms) in

@@ -13,10 +13,10 @@ use Rattle.lists.specs.Lists.{isNil, all, any}
 use Rattle.lists.proofs.Bools.{or-neither, and-right-false}
 use Rattle.lists.proofs.ListLaws.{all-append-both}
 use Rattle.format.specs.Bytes.{Bytes, bytes, allowed, fields, strip}
-use Rattle.format.specs.Labels.{Holds, Text, Version, BlockId, End, Skipped, Label, label, misplaced}
+use Rattle.format.specs.Labels.{Holds, Text, Version, BlockId, End, Skipped, Label, label, misplaced, Handedness}
 use Rattle.format.specs.Coordinates.{exceeds, noGeometry}
-use Rattle.format.specs.Structure.{Entry, entriesOf, agree, Structure}
-use Rattle.format.specs.Reading.{Rules, State, Prose, prose, Go, over, withId, idTurn, lacks, endTurn, valueTurn, lineStep, start, partly}
+use Rattle.format.specs.Structure.{Entry, entriesOf, agree, Structure, handedTwice}
+use Rattle.format.specs.Reading.{Rules, State, Prose, prose, Go, over, withId, idTurn, lacks, endTurn, valueTurn, lineStep, start, partly, withBody, withYes, if_stop_else_}
 use Rattle.format.specs.Table.{textFine}
 use Rattle.format.specs.Writing.{digits, valued}
 use Rattle.format.proofs.FieldLaws.{inline, printed-inline, strip-value, value-back}
@@ -25,13 +25,13 @@ use Rattle.format.proofs.TextLaws.{valued-allowed}
 use Rattle.format.proofs.ReadingLaws.{step-on, line-value}
 use Rattle.format.proofs.Computing.{computing}
 use Rattle.demands.proofs.WayBackLines.{stateWith, stateOf, Through, through-line, record-full, inline-fine}
-use Rattle.demands.proofs.WayBackLabels.{titleLabel, title-written, title-line, versionLabel, version-written, originLabel, origin-written, ownerLabel, owner-written, idLabel, id-written, endLabel, end-written, label-value}
+use Rattle.demands.proofs.WayBackLabels.{titleLabel, title-written, title-line, versionLabel, version-written, originLabel, origin-written, ownerLabel, owner-written, idLabel, id-written, endLabel, end-written, label-value, yesLabel, yes-written}
 use Rattle.demands.proofs.WayBackTexts.{text-through, text-first}
 use Rattle.demands.proofs.WayBackRows.{three-pass, nothing-more, bare-full, bare-fine}
 
 -- the structure of which nothing but the block id is read
 abbrev pub blankWith : ℕ → Structure
-blankWith n = record { atoms = []; bonds = []; charges = []; radicals = []; centres = []; pairs = []; id = n }
+blankWith n = record { atoms = []; bonds = []; charges = []; radicals = []; centres = []; pairs = []; id = n; handed = false }
 
 abbrev pub threeTexts : (title origin owner : Prose) → List Prose
 threeTexts a b c = a ∷ b ∷ c ∷ []
@@ -136,17 +136,37 @@ module _ (u : Rules) (at : ℕ) (seen : List Label) (running : Holds) (f : List 
         through-line u there (stateOf at (idLabel ∷ seen) BlockId texts f (withId (suc n) s)) (h ++ valued v) (record-full h v (id-written .one) i)
         (label-value u there h idLabel id-written begun m o BlockId refl refl (valued v) (valued-allowed v (inline-fine v i)) ∙ id-taken st n b)
 
+    -- STEREOMOLECULE
+    yes-turn : (st : State) (from : ℕ) → st .body .handed ≡ false → valueTurn u Handedness st from (valued (bytes "YES")) ≡ Go (withBody st (withYes (st .body)))
+    unfolding computing
+    yes-turn st from e = ap (λ (t : Bool). if t || false stop 9 else Go (withBody st (withYes (st .body)))) e
+
+    yes-inline : all inline (bytes "YES") ≡ true
+    unfolding computing
+    yes-inline = refl
+
+    pub yes-through : misplaced seen yesLabel ≡ false → s .handed ≡ false →
+        Through u there (bytes "##STEREOMOLECULE=" ++ valued (bytes "YES")) (stateOf (at + length (bytes "##STEREOMOLECULE=" ++ valued (bytes "YES"))) (yesLabel ∷ seen) Handedness texts f (withYes s))
+    unfolding label
+    yes-through m e =
+        let h : Bytes = bytes "##STEREOMOLECULE=" in
+        let v : Bytes = bytes "YES" in
+        through-line u there (stateOf at (yesLabel ∷ seen) Handedness texts f (withYes s)) (h ++ valued v) (record-full h v (yes-written .one) yes-inline)
+        (label-value u there h yesLabel yes-written begun m o Handedness refl refl (valued v) (valued-allowed v (inline-fine v yes-inline)) ∙ yes-turn (stateOf at (yesLabel ∷ seen) Handedness texts f s) (at + length h) e)
+
     -- END
-    pub end-through : misplaced seen endLabel ≡ false → any (lacks (endLabel ∷ seen)) (2 ∷ 3 ∷ 4 ∷ 5 ∷ []) ≡ false → all (lacks (endLabel ∷ seen)) (14 ∷ 15 ∷ 16 ∷ []) ≡ true → 0 < length (s .atoms) → agree f (entriesOf (s .atoms)) ≡ true →
+    pub end-through : misplaced seen endLabel ≡ false → any (lacks (endLabel ∷ seen)) (2 ∷ 3 ∷ 4 ∷ 5 ∷ []) ≡ false → all (lacks (endLabel ∷ seen)) (14 ∷ 15 ∷ 16 ∷ []) ≡ true → (lacks (endLabel ∷ seen) 17 || s .handed) ≡ true →
+        handedTwice s ≡ false → 0 < length (s .atoms) → agree f (entriesOf (s .atoms)) ≡ true →
         Through u there (bytes "##END=" ++ valued []) (stateOf (at + length (bytes "##END=" ++ valued [])) (endLabel ∷ seen) End texts f s)
     unfolding label valueTurn endTurn
-    end-through m l z n g =
+    end-through m l z y w n g =
         let h : Bytes = bytes "##END=" in
         let st : State = stateOf at (endLabel ∷ seen) End texts f s in
         let a : (any (lacks (endLabel ∷ seen)) (2 ∷ 3 ∷ 4 ∷ 5 ∷ []) || eqb (length (s .atoms)) 0) ≡ false = or-neither (any (lacks (endLabel ∷ seen)) (2 ∷ 3 ∷ 4 ∷ 5 ∷ [])) _ l (ne-eqb (length (s .atoms)) 0 (λ q. omega arith)) in
         through-line u there st (h ++ valued []) (bare-full h (end-written .one))
         (label-value u there h endLabel end-written begun m o End refl refl (valued []) bare-fine
-        ∙ ap (endTurn u st) nothing-more ∙ three-pass _ false _ 8 9 15 _ a refl (agreed (u .totals)) ∙ three-pass false _ _ 0 41 42 (Go st) refl (none-partly (endLabel ∷ seen) (14 ∷ 15 ∷ 16 ∷ []) z) nothing-exceeds)
+        ∙ ap (endTurn u st) nothing-more ∙ three-pass _ _ _ 8 9 13 _ a (ap not y) w
+        ∙ three-pass _ _ _ 15 41 42 (Go st) (agreed (u .totals)) (none-partly (endLabel ∷ seen) (14 ∷ 15 ∷ 16 ∷ []) z) nothing-exceeds)
       where
         agreed : (t : Bool) → (t && not (agree f (entriesOf (s .atoms)))) ≡ false
         agreed true = ap not g

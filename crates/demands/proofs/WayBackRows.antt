@@ -31,7 +31,7 @@ use Rattle.format.proofs.RowLines.{RowLine}
 use Rattle.format.proofs.RowLaws.{FineRow, row-fine, shape-back, printed-row, row-some}
 use Rattle.format.proofs.OrderLaws.{row-strict, meets-symm, clash-none}
 use Rattle.demands.proofs.WayBackLines.{stateOf, Through, through-nil, through-both, through-to, through-line, plain-step, record-full}
-use Rattle.demands.proofs.WayBackLabels.{labelOf, list-written, list-holds, list-known, label-value, free, follows, free-more, had-more, spare-more}
+use Rattle.demands.proofs.WayBackLabels.{labelOf, list-written, list-holds, list-known, label-value, free, follows, free-more, had-more, spare-more, lacks-other}
 
 -- A STRUCTURE WITH OTHER ROWS in a list
 pub with-atoms : (l : ListOf) (rs : List Row) (s : Structure) → withRows l rs s .atoms ≡ s .atoms
@@ -159,6 +159,14 @@ abbrev pub runsWith : ListOf → List Row → Holds → Holds
 runsWith l [] running = running
 runsWith l (r ∷ rs) running = Rows l
 
+list-other : (l : ListOf) → eqb (labelOf l .code) 17 ≡ false
+unfolding label
+list-other Bonds = refl
+list-other Charges = refl
+list-other Radicals = refl
+list-other Centres = refl
+list-other Pairs = refl
+
 list-spare : (l : ListOf) → all (λ c. not (eqb (labelOf l .code) c)) (14 ∷ 15 ∷ 16 ∷ []) ≡ true
 unfolding label all
 list-spare Bonds = refl
@@ -183,6 +191,10 @@ module _ (l : ListOf) where
   pub seen-had : (rs : List Row) (seen : List Label) (cs : List ℕ) → any (lacks seen) cs ≡ false → any (lacks (seenWith l rs seen)) cs ≡ false
   seen-had [] seen cs h = h
   seen-had (r ∷ rs) seen cs h = had-more (labelOf l) seen cs h
+
+  pub seen-yes : (rs : List Row) (seen : List Label) → lacks (seenWith l rs seen) 17 ≡ lacks seen 17
+  seen-yes [] seen = refl
+  seen-yes (r ∷ rs) seen = lacks-other (labelOf l) seen 17 (list-other l)
 
   pub seen-spare : (rs : List Row) (seen : List Label) → all (lacks seen) (14 ∷ 15 ∷ 16 ∷ []) ≡ true → all (lacks (seenWith l rs seen)) (14 ∷ 15 ∷ 16 ∷ []) ≡ true
   seen-spare [] seen h = h

@@ -2,13 +2,14 @@
 -- own reading, byte for byte. Serves document 01, demand 2. Assumes nothing.
 use Prim.Native.Nat.{ℕ, _+_, _*_, _≤_, min}
 use mathlib.Core.Path.{_≡_, refl, sym, ap, _∙_, subst}
-use mathlib.Core.Bool.{true, _&&_, false}
+use mathlib.Core.Bool.{Bool, true, false, _&&_}
 use mathlib.Core.List.{List, [], _∷_, _++_, map, append-assoc, append-nil}
 use native.Mathlib.Omega.{arith}
 use native.Mathlib.Nat.{min-eq-right}
 use lib.ListN.{length, take, drop, length-append}
 use lib.Seq.{take-at, drop-at, drop-drop}
-use lib.IntN.{ℤ, pos, negsuc}
+use lib.IntN.{ℤ, pos, negsuc, natAbs}
+use lib.Dec.{eqb}
 use borrow.Author.Tests.{le-ltb}
 use Rattle.lists.specs.Lists.{all, pairs, sameBy, flat, filled, rowsFrom}
 use Rattle.lists.proofs.Bools.{and-both, eqb-same}
@@ -19,7 +20,7 @@ use Rattle.format.specs.Bytes.{Bytes}
 use Rattle.format.specs.Labels.{ListOf, Bonds, Charges, Radicals, Centres, Pairs}
 use Rattle.format.specs.Structure.{Structure, rowsOf, lists, most, meets, groupOk, rowOk, wellFormed}
 use Rattle.format.specs.Reading.{Span}
-use Rattle.format.specs.Table.{Lent, short, width, atomCells, rowCells, rowsPart, counts, derived, encode, cell, countAt, atomAt, markedAt, bondAt, spreadAt, atomRecords, decode, spansOf, sameNumber, soundNumbers, textFine, textAt, textOk, sound, readInto}
+use Rattle.format.specs.Table.{Lent, short, width, atomCells, rowCells, rowsPart, counts, derived, encode, cell, countAt, atomAt, markedAt, bondAt, spreadAt, atomRecords, decode, spansOf, sameNumber, soundNumbers, textFine, textAt, textOk, sound, readInto, flag}
 use Rattle.format.specs.Writing.{canonical, formOf, writeResult}
 use Rattle.demands.specs.WayBack.{ReadBack, WrittenAgain}
 use Rattle.demands.proofs.WayBackLists.{lists-flat}
@@ -28,12 +29,12 @@ use Rattle.demands.proofs.WayBackMembers.{spread-rows}
 use Rattle.demands.proofs.WayBackDecoded.{row-wide, bond-back, centre-back, pair-back, part-long, spread-fine, recordsOf, records-taken, records-atoms, records-long, charge-marks, radical-marks, cells-long, values-charges, values-radicals, values-taken, no-group}
 use Rattle.format.proofs.RefusedLaws.{long-read}
 
--- a structure from its seven parts
+-- a structure from its eight parts
 decoded-by : (t : List ℤ) (s : Structure) → map atomAt (atomRecords t) ≡ s .atoms → rowsFrom 3 bondAt (countAt t 1 512) (drop 1296 t) ≡ s .bonds →
     spreadAt 3 1 (atomRecords t) (take (countAt t 2 64) (drop 2832 t)) ≡ s .charges → spreadAt 4 1 (atomRecords t) (take (countAt t 3 64) (drop 2896 t)) ≡ s .radicals →
-    rowsFrom 3 (markedAt 1) (countAt t 4 128) (drop 2960 t) ≡ s .centres → rowsFrom 4 (markedAt 2) (countAt t 5 128) (drop 3344 t) ≡ s .pairs → cell t 6 ≡ s .id → decode t ≡ s
+    rowsFrom 3 (markedAt 1) (countAt t 4 128) (drop 2960 t) ≡ s .centres → rowsFrom 4 (markedAt 2) (countAt t 5 128) (drop 3344 t) ≡ s .pairs → cell t 6 ≡ s .id → eqb (cell t 13) 1 ≡ s .handed → decode t ≡ s
 unfolding decode
-decoded-by t s a b c d e f g = rw (a, b, c, d, e, f, g) refl
+decoded-by t s a b c d e f g h = rw (a, b, c, d, e, f, g, h) refl
 
 count-is : (t : List ℤ) (p m n : ℕ) → cell t p ≡ n → n ≤ m → countAt t p m ≡ n
 unfolding countAt
@@ -149,9 +150,17 @@ module _ (k : ℕ) (s : Structure) (ok : Fine k s) (a b c : Span) (beyond : List
       ∙ spread-rows 4 records [] (s .radicals) (radical-marks (s .charges) (s .radicals) 1 (s .atoms)) (ok .rows Radicals .apart)
       (spread-fine (length records) Radicals no-group (s .radicals) (rw as-many at (ok .rows Radicals .fine)))
 
+  flag-back : (y : Bool) → eqb (natAbs (flag y)) 1 ≡ y
+  flag-back true = refl
+  flag-back false = refl
+
+  handed-back : eqb (cell table 13) 1 ≡ s .handed
+  unfolding encode counts derived flat
+  handed-back = flag-back (s .handed)
+
   -- THE STRUCTURE BACK
   pub decode-back : decode table ≡ s
-  decode-back = decoded-by table s atoms-back bonds-back charges-back radicals-back centres-back pairs-back (counts-are .6)
+  decode-back = decoded-by table s atoms-back bonds-back charges-back radicals-back centres-back pairs-back (counts-are .6) handed-back
 
   pub spans-back : spansOf table ≡ a ∷ b ∷ c ∷ []
   unfolding spansOf rowsFrom encode counts flat

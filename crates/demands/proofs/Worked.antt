@@ -1,4 +1,4 @@
--- The cases and worked examples of document 01, and those of document 02, L2, computed from the definitions. Assumes nothing.
+-- The cases and worked examples of document 01, and those of document 02, L2 and L4, computed from the definitions. Assumes nothing.
 use mathlib.Core.Path.{_≡_, refl}
 use mathlib.Core.Option.{some}
 use mathlib.Core.List.{[], _∷_, _++_, map}
@@ -11,7 +11,8 @@ use Rattle.demands.specs.Cases.{judged}
 use Rattle.demands.specs.Starred.{starred}
 use Rattle.demands.specs.Neighbours.{neighbours}
 use Rattle.demands.specs.Placings.{placings}
-use Rattle.demands.specs.Examples.{formicInput, formicWritten, formicTable, placedNeon, placedPositions, neon, exampleFile, printedAll, exampleLines}
+use Rattle.demands.specs.Handings.{handings}
+use Rattle.demands.specs.Examples.{formicInput, formicWritten, formicTable, placedNeon, placedPositions, cycloocteneInput, cycloocteneWritten, cycloocteneTable, neon, exampleFile, printedAll, exampleLines}
 use Rattle.format.proofs.Computing.{computing}
 
 pub starred-hold : map judged starred ≡ map (λ c. c .answer) starred
@@ -26,6 +27,10 @@ pub placings-hold : map judged placings ≡ map (λ c. c .answer) placings
 unfolding computing judged placings
 placings-hold = refl
 
+pub handings-hold : map judged handings ≡ map (λ c. c .answer) handings
+unfolding computing judged handings
+handings-hold = refl
+
 -- formic acid is read to its table, and that table is written as document 01 has it; two bytes beyond stay
 pub formic-read : readResult 103 (bytes formicInput) ample ≡ readAnswer 0 0 (lent formicTable (noughts 1024))
 unfolding computing formicTable
@@ -39,6 +44,15 @@ formic-written = refl
 pub placed-read : readResult 103 (bytes placedNeon) ample .after .positions ≡ placedPositions
 unfolding computing placedPositions
 placed-read = refl
+
+-- the ring that is handed as a whole, in the same way
+pub cyclooctene-read : readResult 103 (bytes cycloocteneInput) ample ≡ readAnswer 0 0 (lent cycloocteneTable (noughts 1024))
+unfolding computing cycloocteneTable
+cyclooctene-read = refl
+
+pub cyclooctene-written : writeResult 103 cycloocteneTable (bytes cycloocteneInput) (replicate 294 7) ≡ record { number = 0; count = 292; buffer = bytes cycloocteneWritten ++ (7 ∷ 7 ∷ []) }
+unfolding computing cycloocteneTable
+cyclooctene-written = refl
 
 -- the walk's example: its four lines, and single steps
 pub example-walked : printedAll (answers 103 exampleFile) ≡ some exampleLines

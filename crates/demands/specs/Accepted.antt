@@ -1,5 +1,5 @@
 -- When a block is accepted, said of its lines and rows alone, without a reader's state: document 01, "Lines and labels", "Rows" and "Refusal numbers", and
--- document 02, L2, each sentence one field of `Obeys`. Where the reading judges line by line, this judges the whole block. Assumes nothing.
+-- document 02, L2 and L4, each sentence one field of `Obeys`. Where the reading judges line by line, this judges the whole block. Assumes nothing.
 use Prim.Native.Nat.{ℕ, suc, _+_, _≤_, _<_}
 use mathlib.Core.Path.{_≡_}
 use mathlib.Core.Bool.{Bool, true, false, _&&_, _||_, not}
@@ -10,7 +10,7 @@ use lib.Dec.{eqb, ltb, leb}
 use Rattle.lists.specs.Lists.{isNil, all, any, pairs, flat}
 use Rattle.lists.specs.Folding.{kept}
 use Rattle.format.specs.Bytes.{Bytes, bytes, within, same, gap, allowed, cut, fields, strip}
-use Rattle.format.specs.Labels.{ListOf, Bonds, Charges, Radicals, Centres, Pairs, XyzOf, MaxXyz, XyzFactor, XyzRows, Holds, Text, Version, Formula, BlockId, Atoms, Rows, Xyz, End, Skipped, Label, Line, Plain, Unparted, Labelled, lineOf, titleLine, endLine}
+use Rattle.format.specs.Labels.{ListOf, Bonds, Charges, Radicals, Centres, Pairs, XyzOf, MaxXyz, XyzFactor, XyzRows, Holds, Text, Version, Formula, BlockId, Atoms, Rows, Xyz, Handedness, End, Skipped, Label, Line, Plain, Unparted, Labelled, lineOf, titleLine, endLine}
 use Rattle.format.specs.Rows.{Row, AtomRow, number, field, atomShape, rowShape}
 use Rattle.format.specs.Formula.{Counted}
 use Rattle.format.specs.Grammar.{Says}
@@ -84,10 +84,11 @@ kind End = 5
 kind Skipped = 6
 kind (Rows l) = 7 + place l
 kind (Xyz x) = 12 + part x
+kind Handedness = 15
 
-abbrev pub onlyIf : Bool → Bytes → List Bytes
-onlyIf true l = l ∷ []
-onlyIf false l = []
+abbrev pub onlyIf : {A : Type 0} → Bool → A → List A
+onlyIf true x = x ∷ []
+onlyIf false x = []
 
 abbrev pub valueIn : Holds → Told → List Bytes
 valueIn h (Value g v) = onlyIf (eqb (kind h) (kind g)) v
@@ -163,6 +164,13 @@ xyzFurtherFine MaxXyz l = all gap l
 xyzFurtherFine XyzFactor l = all gap l
 xyzFurtherFine XyzRows l = rowFits xyzShape (λ r. true) (fields l)
 
+-- STEREOMOLECULE: "its only value is `YES`, on the label line or the next row" (document 02, L4)
+pub data Yes : Type 0 where
+  YES : Yes
+
+abbrev pub yesShape : List Bytes → Option Yes
+yesShape fs = elim (same (onlyField fs) (bytes "YES")) [ true ↦ some YES | false ↦ none ]
+
 -- of MOLFORM's value the grammar judges, in `Obeys`
 abbrev pub valueRule : (k : ℕ) → Holds → Bytes → Bool
 valueRule k (Text i) v = true
@@ -172,6 +180,7 @@ valueRule k BlockId v = idFine (fields (strip v))
 valueRule k Atoms v = rowFits atomShape (atomFine k) (fields (strip v))
 valueRule k (Rows l) v = rowFits (rowShape l) (rowFine l) (fields (strip v))
 valueRule k (Xyz x) v = xyzFine x (fields (strip v))
+valueRule k Handedness v = rowFits yesShape (λ y. true) (fields (strip v))
 valueRule k End v = isNil (fields (strip v))
 valueRule k Skipped v = true
 
@@ -184,6 +193,7 @@ furtherRule k BlockId l = all gap (strip l)
 furtherRule k Atoms l = rowFits atomShape (atomFine k) (fields (strip l))
 furtherRule k (Rows r) l = rowFits (rowShape r) (rowFine r) (fields (strip l))
 furtherRule k (Xyz x) l = xyzFurtherFine x (strip l)
+furtherRule k Handedness l = rowFits yesShape (λ y. true) (fields (strip l))
 furtherRule k End l = true
 furtherRule k Skipped l = true
 
@@ -223,6 +233,10 @@ greatestIn b = firstOr 0 (flat (λ v. listed (number (onlyField (fields (strip v
 abbrev pub factorIn : Bytes → Factor
 factorIn b = firstOr (factor 0 0) (flat (λ v. listed (factorShape (onlyField (fields (strip v))))) (flat (valueIn (Xyz XyzFactor)) (toldOf b)))
 
+-- the rows of STEREOMOLECULE
+abbrev pub yesRows : Bytes → List Yes
+yesRows b = rowsBy yesShape (flat (lineIn Handedness) (toldOf b))
+
 pub record Obeys (k : ℕ) (b : Bytes) : Type 0 where
   -- "The longest block has 32,768 bytes." "Allowed bytes: 9, 10, 13 and 32 to 126."
   pub short : length b ≤ 32768
@@ -256,6 +270,10 @@ pub record Obeys (k : ℕ) (b : Bytes) : Type 0 where
   pub xyz-ascending : pairs (λ q r. leb (r .atom) (q .atom)) (xyzRows b) ≡ false
   pub xyz-together : partly (labels (cut b)) (14 ∷ 15 ∷ 16 ∷ []) ≡ false
   pub xyz-bounded : exceeds (geometry (greatestIn b) (factorIn b) (xyzRows b)) ≡ false
+  -- "another value or a second row 9", "no value 9", "YES beside any centre or pair row 13" (document 02, L4): the rows of STEREOMOLECULE are one YES where its label
+  -- stands, else none; where the YES stands there is no row of STEREOCENTER and none of STEREOPAIR
+  pub yes-once : yesRows b ≡ onlyIf (named (labels (cut b)) 17) YES
+  pub yes-alone : yesRows b ≡ YES ∷ [] → (listRows Centres b ≡ []) × (listRows Pairs b ≡ [])
   -- an END line stands there, and behind it only blanks
   pub end-there : any endLine (cut b) ≡ true
   pub end-last : all (all gap) (behindEnd (cut b)) ≡ true

@@ -1,4 +1,4 @@
--- The three demands of document 01, as document 02, L2, has changed them, each one record of its statements, for the elements 1 to k: what the front file proves
+-- The three demands of document 01, as document 02, L2 and L4, has changed them, each one record of its statements, for the elements 1 to k: what the front file proves
 -- for every k in its range, here for one. Assumes nothing.
 use Prim.Native.Nat.{ℕ, _+_, _<_, _≤_}
 use mathlib.Core.Path.{_≡_}
@@ -7,7 +7,7 @@ use mathlib.Core.Bool.{true, false}
 use mathlib.Core.Option.{some}
 use mathlib.Core.List.{List, [], _∷_, _++_, map}
 use lib.ListN.{length, drop}
-use lib.IntN.{ℤ}
+use lib.IntN.{ℤ, pos}
 use lib.Dec.{ltb}
 use lib.Ieee.{Float}
 use Rattle.lists.specs.Lists.{all, any}
@@ -25,6 +25,7 @@ use Rattle.demands.specs.Accepted.{Obeys, _exactlyWhen_}
 use Rattle.demands.specs.ReadAs.{structureIn, spansIn, geometryIn}
 use Rattle.demands.specs.ReadWritten.{formIn}
 use Rattle.demands.specs.Positions.{PositionTold}
+use Rattle.demands.specs.Handed.{numberAt, HandedTold, HandedAlone}
 
 pub record Demand1 (k : ℕ) : Type 0 where
   -- "A refused reading zeroes the structure table, save where that table is too short and is untouched."; L2: positions are "cleared on refusals other than 1"; "a short
@@ -44,6 +45,9 @@ pub record Demand2 (k : ℕ) : Type 0 where
   pub accepted-sound : (b : Bytes) (l : Lent) → short l ≡ false → readResult k b l .number ≡ 0 → sound k (readResult k b l .after .table) b ≡ true
   -- L2: a position is given exactly when a row of XYZ names the atom, and is then that row's
   pub positions-given : (b : Bytes) (l : Lent) → short l ≡ false → readResult k b l .number ≡ 0 → (n : ℕ) → 1 ≤ n → n ≤ 256 → PositionTold b n (readResult k b l .after .positions)
+  -- L4: number 13 is 1 exactly when the block has its YES, else 0; a sound table with 13 set has no centres and no pairs
+  pub handed-given : (b : Bytes) (l : Lent) → short l ≡ false → readResult k b l .number ≡ 0 → HandedTold b (readResult k b l .after .table)
+  pub handed-alone : (t : List ℤ) (b : Bytes) → sound k t b ≡ true → (numberAt 13 t ≡ pos 0 → ⊥) → HandedAlone t
   -- what was read can be written, and read again it is the same table with the same texts
   pub read-written : (b : Bytes) (l : Lent) → short l ≡ false → readResult k b l .number ≡ 0 → (buffer : Bytes) →
       writeResult k (readResult k b l .after .table) b buffer ≡ writtenAs (ltb 32768 (length (formIn k b))) (ltb (length buffer) (length (formIn k b))) (formIn k b) buffer

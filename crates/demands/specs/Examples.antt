@@ -1,5 +1,5 @@
--- The worked examples of document 01: formic acid as it is read and as it is written, and the file of "Walking a transfer file"; and one of document 02, L2: a block with
--- positions. Assumes nothing.
+-- The worked examples of document 01: formic acid as it is read and as it is written, and the file of "Walking a transfer file"; and those of document 02: of L2 a block with
+-- positions, of L4 a ring that is handed as a whole. Assumes nothing.
 use Prim.Native.Nat.{ℕ, zero, suc, _+_}
 use Prim.Native.String.{String}
 use mathlib.Core.Bool.{true, false}
@@ -40,6 +40,30 @@ placedPositions =
     fin false 1 (pos 0) ∷ fin false 5404319552844595 (negsuc 53) ∷ fin true 3152519739159347 (negsuc 51) ∷ nought
     ∷ nought ∷ nought ∷ nought ∷ nought
     ∷ fin false 1 (pos 0) ∷ fin false 1 (pos 0) ∷ nought ∷ fin false 3602879701896397 (negsuc 54) ∷ noughts 1012
+
+-- L4: the cation of trans-cyclooctene, handed as a whole and without a centre; its YES stands below its label line and before RADICAL
+abbrev pub cycloocteneInput : String
+cycloocteneInput = "##TITLE= trans-cyclooctene cation\n##JCAMP-CS= 3.7\n##ORIGIN= bench 4\n##OWNER= public domain\n##MOLFORM= C8 H14\n##ATOMLIST=\n1 C 1\n2 C 1\n3 C 2\n4 C 2\n5 C 2\n6 C 2\n7 C 2\n8 C 2\n##BONDLIST=\n1 2 D\n2 3 S\n3 4 S\n4 5 S\n5 6 S\n6 7 S\n7 8 S\n8 1 S\n##CHARGE=\n+1 1 2\n##STEREOMOLECULE=\nYES $$ no centre\n##STEREOCENTER=\n##RADICAL= 1 1 2\n##END=\n"
+
+-- as it is written: the YES behind all other records, on its label line
+abbrev pub cycloocteneWritten : String
+cycloocteneWritten = "##TITLE= trans-cyclooctene cation\n##JCAMP-CS= 3.7\n##ORIGIN= bench 4\n##OWNER= public domain\n##MOLFORM= C8 H14\n##ATOMLIST=\n1 C 1\n2 C 1\n3 C 2\n4 C 2\n5 C 2\n6 C 2\n7 C 2\n8 C 2\n##BONDLIST=\n1 2 D\n1 8 S\n2 3 S\n3 4 S\n4 5 S\n5 6 S\n6 7 S\n7 8 S\n##CHARGE=\n+1 1 2\n##RADICAL=\n1 1 2\n##STEREOMOLECULE= YES\n##END=\n"
+
+-- its table: 8 atoms, 8 bonds, a charge row and a radical row; where the texts stand; 13 is 1; two atoms with one hydrogen, in both rows, six with two; the bonds; +1 and 1
+unfoldable pub cycloocteneTable : List ℤ
+cycloocteneTable =
+    pos 8 ∷ pos 8 ∷ pos 1 ∷ pos 1 ∷ pos 0 ∷ pos 0 ∷ pos 0 ∷ pos 9 ∷ pos 24 ∷ pos 60 ∷ pos 7 ∷ pos 77 ∷ pos 13 ∷ pos 1 ∷ pos 0 ∷ pos 0
+    ∷ pos 6 ∷ pos 0 ∷ pos 1 ∷ pos 1 ∷ pos 1
+    ∷ pos 6 ∷ pos 0 ∷ pos 1 ∷ pos 1 ∷ pos 1
+    ∷ pos 6 ∷ pos 0 ∷ pos 2 ∷ pos 0 ∷ pos 0
+    ∷ pos 6 ∷ pos 0 ∷ pos 2 ∷ pos 0 ∷ pos 0
+    ∷ pos 6 ∷ pos 0 ∷ pos 2 ∷ pos 0 ∷ pos 0
+    ∷ pos 6 ∷ pos 0 ∷ pos 2 ∷ pos 0 ∷ pos 0
+    ∷ pos 6 ∷ pos 0 ∷ pos 2 ∷ pos 0 ∷ pos 0
+    ∷ pos 6 ∷ pos 0 ∷ pos 2 ∷ pos 0 ∷ pos 0 ∷ (zeros 1240
+    ++ (pos 1 ∷ pos 2 ∷ pos 2 ∷ pos 1 ∷ pos 8 ∷ pos 1 ∷ pos 2 ∷ pos 3 ∷ pos 1 ∷ pos 3 ∷ pos 4 ∷ pos 1 ∷ pos 4 ∷ pos 5 ∷ pos 1 ∷ pos 5 ∷ pos 6 ∷ pos 1
+    ∷ pos 6 ∷ pos 7 ∷ pos 1 ∷ pos 7 ∷ pos 8 ∷ pos 1 ∷ (zeros 1512
+    ++ (pos 1 ∷ (zeros 63 ++ (pos 1 ∷ zeros 959))))))
 
 -- "That block, the line `junk`, the block with `2 Ne` instead, and a lone `##TITLE= a` line"
 abbrev pub neon : String

@@ -3,11 +3,13 @@ pub mod Cases
 pub mod Starred
 pub mod Neighbours
 pub mod Placings
+pub mod Handings
 pub mod Examples
 pub mod Stretches
 pub mod WayBack
 pub mod Accepted
 pub mod Positions
+pub mod Handed
 pub mod ReadAs
 pub mod ReadWritten
 pub mod Places

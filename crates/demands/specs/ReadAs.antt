@@ -1,21 +1,21 @@
--- What an accepted block is read as, said of its lines and rows alone: document 01, "The structure table". The structure has the atoms in their order, the rows of
--- each list without repeats and sorted, the block id; the texts stand where their records do. Assumes nothing.
+-- What an accepted block is read as, said of its lines and rows alone: document 01, "The structure table", and document 02, L4. The structure has the atoms in their
+-- order, the rows of each list without repeats and sorted, the block id, and is handed where the YES stands; the texts stand where their records do. Assumes nothing.
 use Prim.Native.Nat.{ℕ, _+_, _-_}
-use mathlib.Core.Bool.{Bool, true, false}
+use mathlib.Core.Bool.{Bool, true, false, not}
 use mathlib.Core.List.{List, [], _∷_, _++_, map, reverse}
 use lib.ListN.{length}
 use lib.Dec.{eqb}
-use Rattle.lists.specs.Lists.{flat}
+use Rattle.lists.specs.Lists.{isNil, flat}
 use Rattle.lists.specs.Order.{sort}
 use Rattle.lists.specs.Folding.{kept}
 use Rattle.format.specs.Bytes.{Bytes, cut, fields, strip}
-use Rattle.format.specs.Labels.{ListOf, Bonds, Charges, Radicals, Centres, Pairs, Holds, Text, Version, Formula, BlockId, Atoms, Rows, Xyz, End, Skipped, Line, Plain, Unparted, Labelled, lineOf}
+use Rattle.format.specs.Labels.{ListOf, Bonds, Charges, Radicals, Centres, Pairs, Holds, Text, Version, Formula, BlockId, Atoms, Rows, Xyz, Handedness, End, Skipped, Line, Plain, Unparted, Labelled, lineOf}
 use Rattle.format.specs.Rows.{Row, number, field}
 use Rattle.format.specs.Coordinates.{Geometry, geometry}
 use Rattle.format.specs.Structure.{Structure, meets, rowBefore}
 use Rattle.format.specs.Reading.{Prose, prose, Span, spanOf}
 use Rattle.format.specs.Walking.{untilLabel, valueOf}
-use Rattle.demands.specs.Accepted.{listed, valueIn, toldOf, atomRows, listRows, atomOf, xyzRows, greatestIn, factorIn}
+use Rattle.demands.specs.Accepted.{listed, valueIn, toldOf, atomRows, listRows, atomOf, yesRows, xyzRows, greatestIn, factorIn}
 
 -- "block id (0 none)"
 abbrev pub idsIn : Bytes → List ℕ
@@ -39,6 +39,7 @@ structureIn k b = record {
   centres = rowsInOrder Centres b;
   pairs = rowsInOrder Pairs b;
   id = idAs (idsIn b);
+  handed = not (isNil (yesRows b));
 }
 
 -- "TITLE, ORIGIN and OWNER are texts: from `=` to the end of the record": the place of the first byte behind the `=` of text i's label line, and the record's
@@ -51,6 +52,7 @@ holdsText i BlockId = false
 holdsText i Atoms = false
 holdsText i (Rows m) = false
 holdsText i (Xyz x) = false
+holdsText i Handedness = false
 holdsText i End = false
 holdsText i Skipped = false
 

@@ -1,5 +1,5 @@
--- What a block is written as after it was read: the one written form of its atoms, of the rows of each list sorted and without repeats, of its block id and of its
--- texts. Document 01, "The one written form". Assumes nothing.
+-- What a block is written as after it was read: the one written form of its atoms, of the rows of each list sorted and without repeats, of its block id, of its YES
+-- and of its texts. Document 01, "The one written form". Assumes nothing.
 use Prim.Native.Nat.{ℕ}
 use mathlib.Core.List.{map}
 use Rattle.format.specs.Bytes.{Bytes}

@@ -1,4 +1,5 @@
--- Record by record the one written form: document 01, "The one written form" ("Records in this order"). Assumes nothing.
+-- Record by record the one written form: document 01, "The one written form" ("Records in this order"), and document 02, L4 (STEREOMOLECULE "after STEREOPAIR"). Assumes
+-- nothing.
 use Prim.Native.Nat.{ℕ, _+_}
 use Prim.Native.String.{String}
 use mathlib.Core.Path.{_≡_, sym, ap, ap₂, _∙_}
@@ -6,12 +7,13 @@ use mathlib.Core.List.{List, [], _++_, map, append-nil}
 use native.Mathlib.Nat.{add-zero}
 use lib.ListN.{getD, take, drop}
 use lib.IntN.{ℤ, pos, natAbs}
+use lib.Dec.{eqb}
 use lib.Seq.{drop-drop, getD-drop}
 use Rattle.lists.specs.Lists.{concat, flat, rowsFrom}
 use Rattle.format.specs.Bytes.{Bytes, bytes}
 use Rattle.format.specs.Structure.{rowsOf, lists}
 use Rattle.format.specs.Table.{cell, decode, spanAt, spansOf, textAt}
-use Rattle.format.specs.Writing.{valued, printId, printRecord, printAtoms, printRows, records, canonical, formOf}
+use Rattle.format.specs.Writing.{valued, printId, printRecord, printAtoms, printRows, printYes, records, canonical, formOf}
 use Rattle.printing.specs.Printing.{Laid}
 use Rattle.form.specs.Listing.{GroupsFit}
 use Rattle.form.specs.Entries.{FormulaLaid}
@@ -45,8 +47,8 @@ unfolding printRecord
 named l e p = laid-as (ap (λ x. bytes l ++ valued x) e) p
 
 -- EVERY RECORD
-module _ (t : List ℤ) (b : Bytes) (n : ℕ) (keys counts : List ℕ) {b₀ b₁ b₂ b₃ b₄ b₅ b₆ b₇ b₈ b₉ b₁₀ : Bytes} {r₁ r₂ r₃ r₄ r₅ r₆ r₇ r₈ r₉ r₁₀ : ℕ} where
-  pub form-laid : (id : ℕ) → id ≡ cell t 6
+module _ (t : List ℤ) (b : Bytes) (n : ℕ) (keys counts : List ℕ) {b₀ b₁ b₂ b₃ b₄ b₅ b₆ b₇ b₈ b₉ b₁₀ b₁₁ : Bytes} {r₁ r₂ r₃ r₄ r₅ r₆ r₇ r₈ r₉ r₁₀ r₁₁ : ℕ} where
+  pub form-laid : (id flag : ℕ) → id ≡ cell t 6 → flag ≡ cell t 13
       → Laid b₀ 0 (bytes "##TITLE=" ++ valued (take (cell t 8) (drop (cell t 7) b))) b₁ r₁
       → Laid b₁ r₁ (printRecord "##JCAMP-CS=" (bytes "3.7")) b₂ r₂
       → Laid b₂ r₂ (bytes "##ORIGIN=" ++ valued (take (cell t 10) (drop (cell t 9) b))) b₃ r₃
@@ -56,13 +58,14 @@ module _ (t : List ℤ) (b : Bytes) (n : ℕ) (keys counts : List ℕ) {b₀ b�
       → Laid b₆ r₆ (printRecord "##ATOMLIST=" []) b₇ r₇
       → Laid b₇ r₇ (printAtoms 1 (decode t .atoms)) b₈ r₈
       → (GroupsFit t → Laid b₈ r₈ (flat (λ l. printRows l (rowsOf l (decode t))) lists) b₉ r₉)
-      → Laid b₉ r₉ (printRecord "##END=" []) b₁₀ r₁₀
-      → FormLaid t b n keys counts b₀ b₁₀ r₁₀
+      → Laid b₉ r₉ (printYes (eqb flag 1)) b₁₀ r₁₀
+      → Laid b₁₀ r₁₀ (printRecord "##END=" []) b₁₁ r₁₁
+      → FormLaid t b n keys counts b₀ b₁₁ r₁₁
   unfolding formOf canonical records concat decode
-  form-laid id is title version origin owner number formula label atoms rows end fit =
+  form-laid id flag is says title version origin owner number formula label atoms rows whole end fit =
       let first : Laid b₀ 0 (printRecord "##TITLE=" (getD (textsOf t b) 0 [])) b₁ r₁ = named "##TITLE=" (title-is t b) title in
       let second : Laid b₂ r₂ (printRecord "##ORIGIN=" (getD (textsOf t b) 1 [])) b₃ r₃ = named "##ORIGIN=" (origin-is t b) origin in
       let third : Laid b₃ r₃ (printRecord "##OWNER=" (getD (textsOf t b) 2 [])) b₄ r₄ = named "##OWNER=" (owner-is t b) owner in
       laid-then first (laid-then version (laid-then second (laid-then third (laid-then (laid-as (ap printId is) number)
       (laid-then (formula (decode t .atoms) (fit .atoms) (fit .entries)) (laid-then label (laid-then atoms (laid-then (rows (fit .groups))
-      (laid-as (sym (append-nil (printRecord "##END=" []))) end)))))))))
+      (laid-then (laid-as (ap (λ (i : ℕ). printYes (eqb i 1)) says) whole) (laid-as (sym (append-nil (printRecord "##END=" []))) end))))))))))

@@ -1,19 +1,19 @@
--- Records with a value: document 01, "The one written form" ("`=` then a space and the value; no space where there is none", "empty optional ones left out").
--- Assumes nothing.
+-- Records with a value: document 01, "The one written form" ("`=` then a space and the value; no space where there is none", "empty optional ones left out"),
+-- and document 02, L4 (STEREOMOLECULE). Assumes nothing.
 use Prim.Native.Nat.{ℕ, zero, suc, _+_, _-_, _/_, _%_, _≤_, _<_, min}
 use mathlib.Core.Path.{_≡_, refl, sym, ap, ap₂, _∙_}
 use mathlib.Core.Bool.{Bool, true, false}
 use mathlib.Core.List.{List, [], _∷_, _++_}
 use native.Mathlib.Nat.{min-eq-left, min-eq-right}
 use native.Mathlib.Omega.{arith}
-use borrow.Author.Tests.{ltb-true, ltb-false}
-use lib.Dec.{ltb}
+use borrow.Author.Tests.{ltb-true, ltb-false, eq-eqb, ne-eqb}
+use lib.Dec.{eqb, ltb}
 use lib.ListN.{length, take, drop, length-append, length-drop, drop-of-length-le}
 use lib.Seq.{take-all, take-nil}
 use lib.IntN.{ℤ}
 use Rattle.format.specs.Bytes.{Bytes, bytes}
 use Rattle.format.specs.Table.{textPlace, cell}
-use Rattle.format.specs.Writing.{digitsIn, digits, valued, printRecord, printId}
+use Rattle.format.specs.Writing.{digitsIn, digits, valued, printRecord, printId, printYes}
 use Rattle.printing.specs.Printing.{Laid}
 use Rattle.printing.proofs.PrintLaws.{laid-then, laid-as}
 
@@ -87,3 +87,10 @@ id-is (suc n) f = ap (λ v. bytes "##BLOCK_ID=" ++ v) (valued-some (digits (suc 
 module _ {b b₁ b₂ b₃ : Bytes} {at r₁ r₂ r₃ : ℕ} where
   pub id-laid : (n : ℕ) → (n ≡ 0 → ⊥) → Laid b at (bytes "##BLOCK_ID=") b₁ r₁ → Laid b₁ r₁ (32 ∷ digits n) b₂ r₂ → Laid b₂ r₂ (10 ∷ []) b₃ r₃ → Laid b at (printId n) b₃ r₃
   id-laid n f p q s = laid-as (id-is n f) (laid-then p (laid-then q s))
+
+-- HANDED AS A WHOLE
+pub yes-some : (flag : ℕ) → flag ≡ 1 → printRecord "##STEREOMOLECULE=" (bytes "YES") ≡ printYes (eqb flag 1)
+yes-some flag e = sym (ap printYes (eq-eqb flag 1 e))
+
+pub yes-none : (flag : ℕ) → (flag ≡ 1 → ⊥) → [] ≡ printYes (eqb flag 1)
+yes-none flag f = sym (ap printYes (ne-eqb flag 1 f))

@@ -1,5 +1,5 @@
 // The one written form of a table: document 01, "The one written form" ("Records in this order: TITLE, JCAMP-CS, ORIGIN, OWNER, BLOCK_ID, MOLFORM, ATOMLIST,
-// BONDLIST, CHARGE, RADICAL, STEREOCENTER, STEREOPAIR, END").
+// BONDLIST, CHARGE, RADICAL, STEREOCENTER, STEREOPAIR, END"), and document 02, L4 (STEREOMOLECULE "after STEREOPAIR").
 ghost use Prim.Native.Nat.{_≤_, _<_};
 ghost use lib.ListN.{length};
 ghost use Rattle.printing.specs.Printing.{Untouched};
@@ -9,6 +9,7 @@ use crate::listing::put_atoms;
 use crate::listing::put_lists;
 use crate::records::put_id;
 use crate::records::put_span;
+use crate::records::put_yes;
 use cells::cell;
 use format::Table;
 use printing::put_text;
@@ -16,7 +17,7 @@ use tally::ENTRIES;
 
 mod formula; // formula.rt: the record of the formula
 mod listing; // listing.rt: the atoms and the rows of every list
-mod records; // records.rt: texts and the block's number
+mod records; // records.rt: texts, the block's number, handed as a whole
 
 // The texts, as the table counts them: "title, origin, owner".
 const TITLE: usize = 0;
@@ -46,7 +47,8 @@ fn put_records(
     let label = put_text(buffer, formula, b"##ATOMLIST=\n");
     let atoms = put_atoms(buffer, label, table);
     let lists = put_lists(buffer, atoms, table);
-    put_text(buffer, lists, b"##END=\n")
+    let yes = put_yes(buffer, lists, cell(table, Table::HANDED));
+    put_text(buffer, yes, b"##END=\n")
 }
 
 // The same for any caller: a table that is too short, or more entries than the lists hold, print nothing: the buffer stays, and 0 is answered.

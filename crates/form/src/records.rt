@@ -1,10 +1,12 @@
-// Records with a value: document 01, "The one written form" ("`=` then a space and the value; no space where there is none").
+// Records with a value: document 01, "The one written form" ("`=` then a space and the value; no space where there is none"), and document 02, L4 ("written as a record
+// after STEREOPAIR with the value on the label line").
 ghost use mathlib.Core.Path.{_≡_};
 ghost use mathlib.Core.List.{_++_};
 ghost use Prim.Native.Nat.{_+_, min};
 ghost use lib.ListN.{take, drop};
+ghost use lib.Dec.{eqb};
 ghost use Rattle.format.specs.Table.{textPlace, cell as cellOf};
-ghost use Rattle.format.specs.Writing.{valued, printId};
+ghost use Rattle.format.specs.Writing.{valued, printId, printYes};
 ghost use Rattle.printing.specs.Printing.{Laid};
 use cells::cell;
 use format::Table;
@@ -64,4 +66,14 @@ pub fn put_id(buffer: &mut [u8], at: usize, id: u32) -> usize
     let label = put_text(buffer, at, b"##BLOCK_ID=");
     let end = put_behind(buffer, label, id);
     put(buffer, end, 10)
+}
+
+// That the molecule is handed as a whole, where the table's number says so.
+pub fn put_yes(buffer: &mut [u8], at: usize, flag: u32) -> usize
+    ensures { λ r. ⌜ Laid (now (buffer .entry)) at (printYes (eqb flag 1)) (now (buffer .exit)) r ⌝ }
+{
+    if flag == 1 {
+        return put_text(buffer, at, b"##STEREOMOLECULE= YES\n");
+    }
+    at
 }

@@ -7,6 +7,7 @@ pub mod Tables
 pub mod Places
 pub mod PlaceLaws
 pub mod CutLaws
+pub mod LeadLaws
 pub mod ReadingLaws
 pub mod ByteLaws
 pub mod FieldLaws

@@ -41,7 +41,8 @@ abbrev core : List Label → List Label
 core rest = the "TITLE" ∷ the "JCAMPCS" ∷ the "ORIGIN" ∷ the "OWNER" ∷ the "MOLFORM" ∷ the "ATOMLIST" ∷ the "BONDLIST" ∷ the "CHARGE" ∷ rest
 
 -- "TITLE, JCAMP-CS, ORIGIN, OWNER, MOLFORM, ATOMLIST, BONDLIST, CHARGE in this order; RADICAL, STEREOCENTER, STEREOPAIR in any order after those; BLOCK_ID after
--- JCAMP-CS; END last. Each at most once." MAX_XYZ, XYZ_FACTOR and XYZ "after the core, in any order with the other shell labels, each at most once" (document 02, L2)
+-- JCAMP-CS; END last. Each at most once." MAX_XYZ, XYZ_FACTOR and XYZ "after the core, in any order with the other shell labels, each at most once" (document 02, L2), and so
+-- STEREOMOLECULE (document 02, L4)
 pub labels-ordered :
     (pairs unordered (core (the "RADICAL" ∷ the "END" ∷ [])) ≡ false)
     × (pairs unordered (core (the "STEREOCENTER" ∷ the "END" ∷ [])) ≡ false)
@@ -49,10 +50,11 @@ pub labels-ordered :
     × (pairs unordered (core (the "MAXXYZ" ∷ the "END" ∷ [])) ≡ false)
     × (pairs unordered (core (the "XYZFACTOR" ∷ the "END" ∷ [])) ≡ false)
     × (pairs unordered (core (the "XYZ" ∷ the "END" ∷ [])) ≡ false)
-    × (pairs bound (the "RADICAL" ∷ the "STEREOCENTER" ∷ the "STEREOPAIR" ∷ the "MAXXYZ" ∷ the "XYZFACTOR" ∷ the "XYZ" ∷ the "BLOCKID" ∷ []) ≡ false)
+    × (pairs unordered (core (the "STEREOMOLECULE" ∷ the "END" ∷ [])) ≡ false)
+    × (pairs bound (the "RADICAL" ∷ the "STEREOCENTER" ∷ the "STEREOPAIR" ∷ the "MAXXYZ" ∷ the "XYZFACTOR" ∷ the "XYZ" ∷ the "STEREOMOLECULE" ∷ the "BLOCKID" ∷ []) ≡ false)
     × (pairs unordered (the "TITLE" ∷ the "JCAMPCS" ∷ the "BLOCKID" ∷ the "END" ∷ []) ≡ false)
     × (all (free (the "BLOCKID")) (the "ORIGIN" ∷ the "OWNER" ∷ the "MOLFORM" ∷ the "ATOMLIST" ∷ the "BONDLIST" ∷ the "CHARGE" ∷ []) ≡ true)
     × (all (λ x. misplaced (x ∷ []) x) known ≡ true)
     × (all (free (the "DATE")) known ≡ true)
 unfolding computing
-labels-ordered = (refl, refl, refl, refl, refl, refl, refl, refl, refl, refl, refl)
+labels-ordered = (refl, refl, refl, refl, refl, refl, refl, refl, refl, refl, refl, refl)

@@ -39,12 +39,13 @@ pub data XyzOf : Type 0 where
   MaxXyz XyzFactor XyzRows : XyzOf
 
 -- What a record holds: a text (0 title, 1 origin, 2 owner), a value on its label line, the atoms, the rows of a list, a part of the
--- geometry, nothing; or it is skipped
+-- geometry, the word YES, nothing; or it is skipped
 pub data Holds : Type 0 where
   Text : ℕ → Holds
   Version Formula BlockId Atoms : Holds
   Rows : ListOf → Holds
   Xyz : XyzOf → Holds
+  Handedness : Holds
   End Skipped : Holds
 
 pub record Label : Type 0 where
@@ -58,8 +59,9 @@ unfoldable pub label : String → Holds → (code low high : ℕ) → Label
 label n h c lo hi = record { name = bytes n; holds = h; code = c; low = lo; high = hi }
 
 -- "TITLE, JCAMP-CS, ORIGIN, OWNER, MOLFORM, ATOMLIST, BONDLIST, CHARGE in this order; RADICAL, STEREOCENTER, STEREOPAIR in any order after those; BLOCK_ID
--- after JCAMP-CS; END last." MAX_XYZ, XYZ_FACTOR and XYZ "after the core, in any order with the other shell labels, each at most once" (document 02, L2). Each label has
--- an interval low to high, and b must follow a where a's interval ends before b's begins.
+-- after JCAMP-CS; END last." MAX_XYZ, XYZ_FACTOR and XYZ "after the core, in any order with the other shell labels, each at most once" (document 02, L2), and
+-- STEREOMOLECULE "after the core, in any order with RADICAL" (document 02, L4). Each label has an interval low to high, and b must follow a where a's interval ends
+-- before b's begins.
 unfoldable pub known : List Label
 known =
     label "TITLE" (Text 0) 1 1 1
@@ -78,9 +80,10 @@ known =
     ∷ label "MAXXYZ" (Xyz MaxXyz) 14 9 9
     ∷ label "XYZFACTOR" (Xyz XyzFactor) 15 9 9
     ∷ label "XYZ" (Xyz XyzRows) 16 9 9
+    ∷ label "STEREOMOLECULE" Handedness 17 9 9
     ∷ []
 
--- "DATE, TIME, STEREOMOLECULE, the raster .. labels and every unknown label are skipped with their lines": code 0, in order anywhere
+-- "DATE, TIME, .. the raster .. labels and every unknown label are skipped with their lines": code 0, in order anywhere
 unfoldable pub lookup : Bytes → List Label → Label
 lookup n [] = label "" Skipped 0 0 10
 lookup n (x ∷ xs) = elim (same n (x .name)) [ true ↦ x | false ↦ lookup n xs ]

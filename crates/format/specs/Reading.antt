@@ -9,11 +9,11 @@ use lib.Dec.{eqb, ltb, leb}
 use Rattle.lists.specs.Lists.{isNil, all, any, pairs}
 use Rattle.lists.specs.Order.{sort}
 use Rattle.format.specs.Bytes.{Bytes, bytes, within, same, gap, allowed, cut, fields, strip, lead, trim}
-use Rattle.format.specs.Labels.{ListOf, Bonds, Charges, Radicals, Centres, Pairs, XyzOf, MaxXyz, XyzFactor, XyzRows, Holds, Text, Version, Formula, BlockId, Atoms, Rows, Xyz, End, Skipped, Label, Line, Plain, Unparted, Labelled, lineOf, titleLine, misplaced}
+use Rattle.format.specs.Labels.{ListOf, Bonds, Charges, Radicals, Centres, Pairs, XyzOf, MaxXyz, XyzFactor, XyzRows, Holds, Text, Version, Formula, BlockId, Atoms, Rows, Xyz, Handedness, End, Skipped, Label, Line, Plain, Unparted, Labelled, lineOf, titleLine, misplaced}
 use Rattle.format.specs.Rows.{Row, row, AtomRow, number, field, atomShape, rowShape}
 use Rattle.format.specs.Formula.{Counted, formulaShape}
 use Rattle.format.specs.Coordinates.{XyzRow, xyzShape, Factor, factorShape, Geometry, geometry, noGeometry, exceeds}
-use Rattle.format.specs.Structure.{isotope, unknown, massOk, Atom, Structure, rowsOf, most, ranged, meets, clash, rowBefore, Entry, entry, entriesOf, agree}
+use Rattle.format.specs.Structure.{isotope, unknown, massOk, Atom, Structure, rowsOf, most, ranged, meets, clash, rowBefore, handedTwice, Entry, entry, entriesOf, agree}
 
 -- What a reading goes by: the number of known elements, and whether the formula's totals are tested at END
 pub record Rules : Type 0 where
@@ -68,17 +68,20 @@ abbrev pub past : Bytes → State → State
 past line st = record { at = st .at + length line; seen = st .seen; running = st .running; texts = st .texts; formula = st .formula; geometry = st .geometry; body = st .body }
 
 abbrev pub withAtoms : List Atom → Structure → Structure
-withAtoms l s = record { atoms = l; bonds = s .bonds; charges = s .charges; radicals = s .radicals; centres = s .centres; pairs = s .pairs; id = s .id }
+withAtoms l s = record { atoms = l; bonds = s .bonds; charges = s .charges; radicals = s .radicals; centres = s .centres; pairs = s .pairs; id = s .id; handed = s .handed }
 
 abbrev pub withId : ℕ → Structure → Structure
-withId n s = record { atoms = s .atoms; bonds = s .bonds; charges = s .charges; radicals = s .radicals; centres = s .centres; pairs = s .pairs; id = n }
+withId n s = record { atoms = s .atoms; bonds = s .bonds; charges = s .charges; radicals = s .radicals; centres = s .centres; pairs = s .pairs; id = n; handed = s .handed }
+
+abbrev pub withYes : Structure → Structure
+withYes s = record { atoms = s .atoms; bonds = s .bonds; charges = s .charges; radicals = s .radicals; centres = s .centres; pairs = s .pairs; id = s .id; handed = true }
 
 unfoldable pub withRows : ListOf → List Row → Structure → Structure
-withRows Bonds l s = record { atoms = s .atoms; bonds = l; charges = s .charges; radicals = s .radicals; centres = s .centres; pairs = s .pairs; id = s .id }
-withRows Charges l s = record { atoms = s .atoms; bonds = s .bonds; charges = l; radicals = s .radicals; centres = s .centres; pairs = s .pairs; id = s .id }
-withRows Radicals l s = record { atoms = s .atoms; bonds = s .bonds; charges = s .charges; radicals = l; centres = s .centres; pairs = s .pairs; id = s .id }
-withRows Centres l s = record { atoms = s .atoms; bonds = s .bonds; charges = s .charges; radicals = s .radicals; centres = l; pairs = s .pairs; id = s .id }
-withRows Pairs l s = record { atoms = s .atoms; bonds = s .bonds; charges = s .charges; radicals = s .radicals; centres = s .centres; pairs = l; id = s .id }
+withRows Bonds l s = record { atoms = s .atoms; bonds = l; charges = s .charges; radicals = s .radicals; centres = s .centres; pairs = s .pairs; id = s .id; handed = s .handed }
+withRows Charges l s = record { atoms = s .atoms; bonds = s .bonds; charges = l; radicals = s .radicals; centres = s .centres; pairs = s .pairs; id = s .id; handed = s .handed }
+withRows Radicals l s = record { atoms = s .atoms; bonds = s .bonds; charges = s .charges; radicals = l; centres = s .centres; pairs = s .pairs; id = s .id; handed = s .handed }
+withRows Centres l s = record { atoms = s .atoms; bonds = s .bonds; charges = s .charges; radicals = s .radicals; centres = l; pairs = s .pairs; id = s .id; handed = s .handed }
+withRows Pairs l s = record { atoms = s .atoms; bonds = s .bonds; charges = s .charges; radicals = s .radicals; centres = s .centres; pairs = l; id = s .id; handed = s .handed }
 
 abbrev pub atomCount : State → ℕ
 atomCount st = length (st .body .atoms)
@@ -178,8 +181,16 @@ xyzValue MaxXyz st fs = greatestTurn st (number (onlyField fs))
 xyzValue XyzFactor st fs = factorTurn st (factorShape (onlyField fs))
 xyzValue XyzRows st fs = xyzLine st fs
 
--- END: 8 "JCAMP-CS, ORIGIN, OWNER, MOLFORM or an ATOMLIST with a row missing at END"; "END with a value is refused 9"; 15 "formula and atoms differ"; 41, "tested on
--- the END line after 15"; 42 "a value above MAX_XYZ, also tested there, after 41"
+-- STEREOMOLECULE: "its only value is `YES`, on the label line or the next row"; "another value or a second row 9" (document 02, L4)
+unfoldable pub yesTurn : State → List Bytes → Turn
+yesTurn st fs = if st .body .handed || not (same (onlyField fs) (bytes "YES")) stop 9 else Go (withBody st (withYes (st .body)))
+
+unfoldable pub yesLine : State → List Bytes → Turn
+yesLine st fs = unlessBlank st fs (yesTurn st fs)
+
+-- END: 8 "JCAMP-CS, ORIGIN, OWNER, MOLFORM or an ATOMLIST with a row missing at END"; "END with a value is refused 9"; of STEREOMOLECULE "on the END line, before 15,
+-- no value 9 and YES beside any centre or pair row 13"; 15 "formula and atoms differ"; 41, "tested on the END line after 15"; 42 "a value above MAX_XYZ, also tested
+-- there, after 41"
 unfoldable pub lacks : (seen : List Label) → (code : ℕ) → Bool
 lacks seen c = not (any (λ x. eqb (x .code) c) seen)
 
@@ -190,7 +201,8 @@ partly seen cs = any (lacks seen) cs && not (all (lacks seen) cs)
 unfoldable pub endTurn : Rules → State → List Bytes → Turn
 endTurn u st fs =
     if any (lacks (st .seen)) (2 ∷ 3 ∷ 4 ∷ 5 ∷ []) || eqb (atomCount st) 0 stop 8
-    else if not (isNil fs) stop 9
+    else if not (isNil fs) || not (lacks (st .seen) 17 || st .body .handed) stop 9
+    else if handedTwice (st .body) stop 13
     else if u .totals && not (agree (st .formula) (entriesOf (st .body .atoms))) stop 15
     else if partly (st .seen) (14 ∷ 15 ∷ 16 ∷ []) stop 41
     else if exceeds (st .geometry) stop 42
@@ -205,6 +217,7 @@ valueTurn u BlockId st from v = idTurn st (fields (strip v))
 valueTurn u Atoms st from v = atomLine (u .elements) st (fields (strip v))
 valueTurn u (Rows l) st from v = rowLine l st (fields (strip v))
 valueTurn u (Xyz x) st from v = xyzValue x st (fields (strip v))
+valueTurn u Handedness st from v = yesLine st (fields (strip v))
 valueTurn u End st from v = endTurn u st (fields (strip v))
 valueTurn u Skipped st from v = Go st
 
@@ -229,6 +242,7 @@ furtherTurn u BlockId st l = blankOr 9 st (strip l)
 furtherTurn u Atoms st l = atomLine (u .elements) st (fields (strip l))
 furtherTurn u (Rows r) st l = rowLine r st (fields (strip l))
 furtherTurn u (Xyz x) st l = xyzFurther x st (strip l)
+furtherTurn u Handedness st l = yesLine st (fields (strip l))
 furtherTurn u End st l = blankOr 17 st l
 furtherTurn u Skipped st l = Go st
 
@@ -241,6 +255,7 @@ over BlockId = false
 over Atoms = false
 over (Rows l) = false
 over (Xyz x) = false
+over Handedness = false
 over End = true
 over Skipped = false
 
@@ -289,7 +304,7 @@ start = record {
   texts = prose 0 [] ∷ prose 0 [] ∷ prose 0 [] ∷ [];
   formula = [];
   geometry = noGeometry;
-  body = record { atoms = []; bonds = []; charges = []; radicals = []; centres = []; pairs = []; id = 0 };
+  body = record { atoms = []; bonds = []; charges = []; radicals = []; centres = []; pairs = []; id = 0; handed = false };
 }
 
 -- The lists sorted, the texts trimmed: "start and length in the block of title, origin, owner (empty: 0, 0)"
@@ -302,6 +317,7 @@ finished s = record {
   centres = sort rowBefore (s .centres);
   pairs = sort rowBefore (s .pairs);
   id = s .id;
+  handed = s .handed;
 }
 
 pub record Span : Type 0 where

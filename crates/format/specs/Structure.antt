@@ -55,6 +55,7 @@ pub record Atom : Type 0 where
   pub kind : Isotope
   pub hydrogens : ℕ
 
+-- handed: the molecule is handed as a whole, as a helicene is (document 02, L4)
 pub record Structure : Type 0 where
   pub atoms : List Atom
   pub bonds : List Row
@@ -63,6 +64,7 @@ pub record Structure : Type 0 where
   pub centres : List Row
   pub pairs : List Row
   pub id : ℕ
+  pub handed : Bool
 
 unfoldable pub rowsOf : ListOf → Structure → List Row
 rowsOf Bonds s = s .bonds
@@ -164,5 +166,10 @@ rowOk l n r =
 unfoldable pub rowsOk : (n : ℕ) → Structure → ListOf → Bool
 rowsOk n s l = leb (length (rowsOf l s)) (most l) && (all (rowOk l n) (rowsOf l s) && (ascends rowBefore (rowsOf l s) && not (pairs (meets l) (rowsOf l s))))
 
+-- handed as a whole and by a centre or a pair: "YES beside any centre or pair row"; "A sound table with 13 set has no centres and no pairs." (document 02, L4)
+unfoldable pub handedTwice : Structure → Bool
+handedTwice s = s .handed && not (isNil (s .centres) && isNil (s .pairs))
+
 unfoldable pub wellFormed : (k : ℕ) → Structure → Bool
-wellFormed k s = within 1 256 (length (s .atoms)) && (all (atomOk k) (s .atoms) && (all (rowsOk (length (s .atoms)) s) lists && leb (s .id) 999999))
+wellFormed k s =
+    within 1 256 (length (s .atoms)) && (all (atomOk k) (s .atoms) && (all (rowsOk (length (s .atoms)) s) lists && (leb (s .id) 999999 && not (handedTwice s))))

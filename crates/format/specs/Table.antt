@@ -65,9 +65,13 @@ counts s = length (s .atoms) ∷ length (s .bonds) ∷ length (s .charges) ∷ l
 abbrev pub spanCells : Span → List ℤ
 spanCells x = pos (x .place) ∷ pos (x .size) ∷ []
 
--- "13 to 15 are 0": the numbers that are derived from the structure, none now
+-- "13 to 15 are 0": the numbers that are derived from the structure; "Table number 13 becomes 1" where the molecule is handed as a whole (document 02, L4)
+abbrev pub flag : Bool → ℤ
+flag true = pos 1
+flag false = pos 0
+
 unfoldable pub derived : Structure → List ℤ
-derived s = pos 0 ∷ pos 0 ∷ pos 0 ∷ []
+derived s = flag (s .handed) ∷ pos 0 ∷ pos 0 ∷ []
 
 -- "3,856 signed 32-bit numbers; unused ones are 0"
 unfoldable pub encode : Structure → List Span → List ℤ
@@ -111,6 +115,7 @@ decode t = record {
   centres = rowsFrom 3 (markedAt 1) (countAt t 4 128) (drop 2960 t);
   pairs = rowsFrom 4 (markedAt 2) (countAt t 5 128) (drop 3344 t);
   id = cell t 6;
+  handed = eqb (cell t 13) 1;
 }
 
 abbrev pub spanAt : List ℤ → Span

@@ -141,8 +141,13 @@ unfoldable pub printRows : ListOf → List Row → Bytes
 printRows l [] = []
 printRows l (r ∷ rs) = printRecord (listLabel l) [] ++ flat (λ x. line (rowWords l x)) (r ∷ rs)
 
+-- "written as a record after STEREOPAIR with the value on the label line" (document 02, L4)
+abbrev pub printYes : Bool → Bytes
+printYes true = printRecord "##STEREOMOLECULE=" (bytes "YES")
+printYes false = []
+
 -- "Records in this order: TITLE, JCAMP-CS, ORIGIN, OWNER, BLOCK_ID, MOLFORM, ATOMLIST, BONDLIST, CHARGE, RADICAL, STEREOCENTER, STEREOPAIR, END, spelt as in
--- the paper's Table I"
+-- the paper's Table I"; STEREOMOLECULE "after STEREOPAIR" (document 02, L4)
 unfoldable pub records : Structure → (texts : List Bytes) → List Bytes
 records s texts =
     printRecord "##TITLE=" (getD texts 0 [])
@@ -154,6 +159,7 @@ records s texts =
     ∷ printRecord "##ATOMLIST=" []
     ∷ printAtoms 1 (s .atoms)
     ∷ flat (λ l. printRows l (rowsOf l s)) lists
+    ∷ printYes (s .handed)
     ∷ printRecord "##END=" []
     ∷ []
 

@@ -60,6 +60,9 @@ impl Table {
 
     pub const BLOCK_ID: usize = 6;
 
+    // The number behind the texts' places: 1 where the molecule is handed as a whole, else 0.
+    pub const HANDED: usize = Self::FIRST_TEXT + 2 * Self::TEXTS;
+
     // Where a text's start and length stand: title 0, origin 1, owner 2. For every place below: an index beyond the list's last answers the table's size.
     pub fn text(index: usize) -> usize
         ensures { λ r. ⌜ r ≡ textPlace index ⌝ }

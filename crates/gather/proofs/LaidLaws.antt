@@ -58,7 +58,7 @@ seated-past a s n from size b put h f = record {
 abbrev pub eight : (a c r b s p l g : List ℕ) → List ℕ
 eight a c r b s p l g = a ++ (c ++ (r ++ (b ++ (s ++ (p ++ (l ++ g))))))
 
-module _ (a c r b s p l g : List ℕ) (la : length a ≡ 768) (lc : length c ≡ 321) (lr : length r ≡ 321) (lb : length b ≡ 1024) (ls : length s ≡ 256) (lp : length p ≡ 256) (ll : length l ≡ 17) (lg : length g ≡ 9) where
+module _ (a c r b s p l g : List ℕ) (la : length a ≡ 768) (lc : length c ≡ 321) (lr : length r ≡ 321) (lb : length b ≡ 1024) (ls : length s ≡ 256) (lp : length p ≡ 256) (ll : length l ≡ 18) (lg : length g ≡ 9) where
   seat-a : Seated (eight a c r b s p l g) 0 768 a (λ x. eight x c r b s p l g)
   seat-a = seated-here a (c ++ (r ++ (b ++ (s ++ (p ++ (l ++ g)))))) 768 la
 
@@ -86,13 +86,13 @@ module _ (a c r b s p l g : List ℕ) (la : length a ≡ 768) (lc : length c ≡
   seat-p : Seated (eight a c r b s p l g) 2690 256 p (λ x. eight a c r b s x l g)
   seat-p = past-b 256 256 p (λ x. s ++ (x ++ (l ++ g))) (seated-past s (p ++ (l ++ g)) 256 0 256 p (λ x. x ++ (l ++ g)) ls (seated-here p (l ++ g) 256 lp))
 
-  seat-l : Seated (eight a c r b s p l g) 2946 17 l (λ x. eight a c r b s p x g)
-  seat-l = past-b 512 17 l (λ x. s ++ (p ++ (x ++ g))) (seated-past s (p ++ (l ++ g)) 256 256 17 l (λ x. p ++ (x ++ g)) ls (seated-past p (l ++ g) 256 0 17 l (λ x. x ++ g) lp (seated-here l g 17 ll)))
+  seat-l : Seated (eight a c r b s p l g) 2946 18 l (λ x. eight a c r b s p x g)
+  seat-l = past-b 512 18 l (λ x. s ++ (p ++ (x ++ g))) (seated-past s (p ++ (l ++ g)) 256 256 18 l (λ x. p ++ (x ++ g)) ls (seated-past p (l ++ g) 256 0 18 l (λ x. x ++ g) lp (seated-here l g 18 ll)))
 
-  seat-g : Seated (eight a c r b s p l g) 2963 9 g (λ x. eight a c r b s p l x)
+  seat-g : Seated (eight a c r b s p l g) 2964 9 g (λ x. eight a c r b s p l x)
   seat-g =
-      past-b 529 9 g (λ x. s ++ (p ++ (l ++ x)))
-      (seated-past s (p ++ (l ++ g)) 256 273 9 g (λ x. p ++ (l ++ x)) ls (seated-past p (l ++ g) 256 17 9 g (λ x. l ++ x) lp (seated-past l g 17 0 9 g (λ x. x) ll (seated-alone g 9 lg))))
+      past-b 530 9 g (λ x. s ++ (p ++ (l ++ x)))
+      (seated-past s (p ++ (l ++ g)) 256 274 9 g (λ x. p ++ (l ++ x)) ls (seated-past p (l ++ g) 256 18 9 g (λ x. l ++ x) lp (seated-past l g 18 0 9 g (λ x. x) ll (seated-alone g 9 lg))))
 
 -- HOW LONG EACH REGION IS
 pub all-true : {A : Type 0} (xs : List A) → all (λ x. true) xs ≡ true
@@ -180,14 +180,14 @@ module _ (st : State) (z : Sized st) where
   shown-long Pairs = keyed-long Pairs (st .body .pairs) (z .rows Pairs)
 
   -- any fact of the eight regions, from their lengths
-  by-eight : (F : (a c r b s p l g : List ℕ) → Type 0) → ((a c r b s p l g : List ℕ) → length a ≡ 768 → length c ≡ 321 → length r ≡ 321 → length b ≡ 1024 → length s ≡ 256 → length p ≡ 256 → length l ≡ 17 → length g ≡ 9 → F a c r b s p l g)
+  by-eight : (F : (a c r b s p l g : List ℕ) → Type 0) → ((a c r b s p l g : List ℕ) → length a ≡ 768 → length c ≡ 321 → length r ≡ 321 → length b ≡ 1024 → length s ≡ 256 → length p ≡ 256 → length l ≡ 18 → length g ≡ 9 → F a c r b s p l g)
       → F (kindsRegion (st .body .atoms)) (spreadRegion (st .body .charges)) (spreadRegion (st .body .radicals)) (keyedRegion Bonds (st .body .bonds)) (keyedRegion Centres (st .body .centres))
-      (keyedRegion Pairs (st .body .pairs)) (seenFrom 17 0 (st .seen)) (geometryRegion (st .geometry))
+      (keyedRegion Pairs (st .body .pairs)) (seenFrom 18 0 (st .seen)) (geometryRegion (st .geometry))
   unfolding rowsOf
   by-eight F f =
       f (kindsRegion (st .body .atoms)) (spreadRegion (st .body .charges)) (spreadRegion (st .body .radicals)) (keyedRegion Bonds (st .body .bonds)) (keyedRegion Centres (st .body .centres))
-      (keyedRegion Pairs (st .body .pairs)) (seenFrom 17 0 (st .seen)) (geometryRegion (st .geometry)) (kinds-long (st .body .atoms) (z .atoms)) (shown-long Charges) (shown-long Radicals) (shown-long Bonds) (shown-long Centres)
-      (shown-long Pairs) (seen-length 17 0 (st .seen)) (region-nine (st .geometry))
+      (keyedRegion Pairs (st .body .pairs)) (seenFrom 18 0 (st .seen)) (geometryRegion (st .geometry)) (kinds-long (st .body .atoms) (z .atoms)) (shown-long Charges) (shown-long Radicals) (shown-long Bonds) (shown-long Centres)
+      (shown-long Pairs) (seen-length 18 0 (st .seen)) (region-nine (st .geometry))
 
   pub list-seated : (l : ListOf) → (take (sizeOf l) (drop (fromOf l) (laid st)) ≡ shownAs l (rowsOf l (st .body))) × ((rs : List Row) → putMid (fromOf l) (sizeOf l) (laid st) (shownAs l rs) ≡ laid (rowsPut l st rs))
   unfolding laid rowsOf withRows
@@ -201,10 +201,10 @@ module _ (st : State) (z : Sized st) where
   unfolding laid
   atoms-seated = let f = by-eight (λ a c r b s p l g. Seated (eight a c r b s p l g) 0 768 a (λ x. eight x c r b s p l g)) seat-a in (f .part, λ listed. f .placed (kindsRegion listed))
 
-  pub seen-seated : (take 17 (drop 2946 (laid st)) ≡ seenFrom 17 0 (st .seen)) × ((h : Holds) (seen : List Label) → putMid 2946 17 (laid st) (seenFrom 17 0 seen) ≡ laid (seenPut st h seen))
+  pub seen-seated : (take 18 (drop 2946 (laid st)) ≡ seenFrom 18 0 (st .seen)) × ((h : Holds) (seen : List Label) → putMid 2946 18 (laid st) (seenFrom 18 0 seen) ≡ laid (seenPut st h seen))
   unfolding laid
-  seen-seated = let f = by-eight (λ a c r b s p l g. Seated (eight a c r b s p l g) 2946 17 l (λ x. eight a c r b s p x g)) seat-l in (f .part, λ h seen. f .placed (seenFrom 17 0 seen))
+  seen-seated = let f = by-eight (λ a c r b s p l g. Seated (eight a c r b s p l g) 2946 18 l (λ x. eight a c r b s p x g)) seat-l in (f .part, λ h seen. f .placed (seenFrom 18 0 seen))
 
-  pub geometry-seated : (take 9 (drop 2963 (laid st)) ≡ geometryRegion (st .geometry)) × ((g : Geometry) → putMid 2963 9 (laid st) (geometryRegion g) ≡ laid (withGeometry st g))
+  pub geometry-seated : (take 9 (drop 2964 (laid st)) ≡ geometryRegion (st .geometry)) × ((g : Geometry) → putMid 2964 9 (laid st) (geometryRegion g) ≡ laid (withGeometry st g))
   unfolding laid
-  geometry-seated = let f = by-eight (λ a c r b s p l g. Seated (eight a c r b s p l g) 2963 9 g (λ x. eight a c r b s p l x)) seat-g in (f .part, λ g. f .placed (geometryRegion g))
+  geometry-seated = let f = by-eight (λ a c r b s p l g. Seated (eight a c r b s p l g) 2964 9 g (λ x. eight a c r b s p l x)) seat-g in (f .part, λ g. f .placed (geometryRegion g))

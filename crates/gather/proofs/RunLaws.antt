@@ -183,10 +183,10 @@ module _ (block : Bytes) (at atoms bonds place count : ℕ) (t₀ t : List ℕ) 
   }
 
 -- the bonds' part of the scratch, and the scratch with it put back as long as it was
-pub bonds-long : (t : List ℕ) → length t ≡ 2972 → length (take 1024 (drop 1410 t)) ≡ 1024
+pub bonds-long : (t : List ℕ) → length t ≡ 2973 → length (take 1024 (drop 1410 t)) ≡ 1024
 bonds-long t h = length-take-le 1024 (drop 1410 t) (simp length-drop (omega arith))
 
-pub bonds-put : (t region : List ℕ) → length t ≡ 2972 → length region ≡ length (take 1024 (drop 1410 t)) → length (putMid 1410 1024 t region) ≡ 2972
+pub bonds-put : (t region : List ℕ) → length t ≡ 2973 → length region ≡ length (take 1024 (drop 1410 t)) → length (putMid 1410 1024 t region) ≡ 2973
 bonds-put t region h e = same-len-mid 1410 1024 t region e ∙ h
 
 -- a row that does not join leaves all as it is

@@ -60,29 +60,30 @@ rows-kept P Centres rs c s p new old m = elim m [ Bonds ↦ old Bonds | Charges 
 rows-kept P Pairs rs c s p new old m = elim m [ Bonds ↦ old Bonds | Charges ↦ old Charges | Radicals ↦ old Radicals | Centres ↦ old Centres | Pairs ↦ new ]
 
 -- the other parts of the structure stay, and the count of atoms
-rows-alone : (l : ListOf) (rs : List Row) (s : Structure) (c : ℕ) (p : Progress) → (withRows l rs s .atoms ≡ s .atoms) × (withRows l rs s .id ≡ s .id) × (withCount (codeOf l) c p .atoms ≡ p .atoms)
+rows-alone : (l : ListOf) (rs : List Row) (s : Structure) (c : ℕ) (p : Progress) → (withRows l rs s .atoms ≡ s .atoms) × (withRows l rs s .id ≡ s .id) × (withRows l rs s .handed ≡ s .handed) × (withCount (codeOf l) c p .atoms ≡ p .atoms)
 unfolding withRows
-rows-alone Bonds rs s c p = (refl, refl, refl)
-rows-alone Charges rs s c p = (refl, refl, refl)
-rows-alone Radicals rs s c p = (refl, refl, refl)
-rows-alone Centres rs s c p = (refl, refl, refl)
-rows-alone Pairs rs s c p = (refl, refl, refl)
+rows-alone Bonds rs s c p = (refl, refl, refl, refl)
+rows-alone Charges rs s c p = (refl, refl, refl, refl)
+rows-alone Radicals rs s c p = (refl, refl, refl, refl)
+rows-alone Centres rs s c p = (refl, refl, refl, refl)
+rows-alone Pairs rs s c p = (refl, refl, refl, refl)
 
 rows-listed : (l : ListOf) (rs : List Row) (p : Progress) (s : Structure) → Listed p s → Fits l (p .atoms) rs → Listed (withCount (codeOf l) (length rs) p) (withRows l rs s)
 rows-listed l rs p s h f =
     let o = rows-alone l rs s (length rs) p in
     record {
-      atoms = ap length (o .0) ∙ h .atoms ∙ sym (o .2);
+      atoms = ap length (o .0) ∙ h .atoms ∙ sym (o .3);
       counts = rows-kept (λ m ms n. length ms ≡ n) l rs (length rs) s p refl (h .counts);
-      fits = rw (o .2) (rows-kept (λ m ms n. Fits m (p .atoms) ms) l rs (length rs) s p f (h .fits));
+      fits = rw (o .3) (rows-kept (λ m ms n. Fits m (p .atoms) ms) l rs (length rs) s p f (h .fits));
       id = o .1 ∙ h .id;
+      handed = o .2 ∙ h .handed;
     }
 
 -- a part of so many numbers put back leaves as many
-pub put-long : (from size : ℕ) (t region : List ℕ) → length t ≡ 2972 → from + size ≤ 2972 → length region ≡ size → length (putMid from size t region) ≡ 2972
+pub put-long : (from size : ℕ) (t region : List ℕ) → length t ≡ 2973 → from + size ≤ 2973 → length region ≡ size → length (putMid from size t region) ≡ 2973
 put-long from size t region h k e = same-len-mid from size t region (e ∙ sym (length-take-le size (drop from t) (simp length-drop (omega arith)))) ∙ h
 
-pub part-long : (from size : ℕ) (t : List ℕ) → length t ≡ 2972 → from + size ≤ 2972 → length (take size (drop from t)) ≡ size
+pub part-long : (from size : ℕ) (t : List ℕ) → length t ≡ 2973 → from + size ≤ 2973 → length (take size (drop from t)) ≡ size
 part-long from size t h k = length-take-le size (drop from t) (simp length-drop (omega arith))
 
 -- what a list's own line says of its part of the scratch: the part stays as long; where all is as it should be, the count is within the limit, and what it shows; where it
@@ -94,7 +95,7 @@ Told size count limit place p part region r Shown =
 -- and so all that a line promises in the whole scratch
 abbrev pub Gathered : (code k place : ℕ) → List Bytes → Progress → (before after : List ℕ) → LineAfter → Type 0
 Gathered code k place fs p before after r =
-    (length after ≡ 2972) × Gathers code k place fs p before after (turnOf code p r) × ((ListLent code p before → ⊥) → LineUntouched place before after r)
+    (length after ≡ 2973) × Gathers code k place fs p before after (turnOf code p r) × ((ListLent code p before → ⊥) → LineUntouched place before after r)
 
 counted-turn : (code limit : ℕ) (p : Progress) (r : LineAfter) → ((c : ℕ) → c ≤ limit → Counted (withCount code c p)) → LineWithin limit r → CountedTurn p (turnOf code p r)
 counted-turn code limit p (L.Kept c) keeps f = (keeps c (f c refl), refl)
@@ -105,10 +106,10 @@ put-untouched : (from size place : ℕ) (t region : List ℕ) (r : LineAfter) �
 put-untouched from size place t region r w = (w .0, ap (putMid from size t) (w .1) ∙ put-same from size t)
 
 -- `own` is the list's code
-told-gathers : (code k place : ℕ) (fs : List Bytes) (p : Progress) (t region : List ℕ) (r : LineAfter) (own from size count limit : ℕ) (Shown : Type 0) → from + size ≤ 2972
+told-gathers : (code k place : ℕ) (fs : List Bytes) (p : Progress) (t region : List ℕ) (r : LineAfter) (own from size count limit : ℕ) (Shown : Type 0) → from + size ≤ 2973
     → ((c : ℕ) → Counted p → c ≤ limit → Counted (withCount own c p))
     → (Counted p → 1 ≤ k → Shown → (block : Bytes) (st : State) → Shows k block place p t st → ShowsTurn k block place (turnOf own p r) (putMid from size t region) (listLine own k st fs))
-    → Own code own count limit p → Told size count limit place p (take size (drop from t)) region r Shown → length t ≡ 2972
+    → Own code own count limit p → Told size count limit place p (take size (drop from t)) region r Shown → length t ≡ 2973
     → Gathered code k place fs p t (putMid from size t region) r
 told-gathers code k place fs p t region r own from size count limit Shown room keeps shows is told long =
     let w = part-long from size t long room in (
@@ -118,7 +119,7 @@ told-gathers code k place fs p t region r own from size count limit Shown room k
     )
 
 -- ONE OF THE FIVE LISTS
-region-within : (l : ListOf) → fromOf l + sizeOf l ≤ 2972
+region-within : (l : ListOf) → fromOf l + sizeOf l ≤ 2973
 region-within Bonds = omega arith
 region-within Charges = omega arith
 region-within Radicals = omega arith
@@ -143,7 +144,7 @@ module _ (l : ListOf) (at : ℕ) (p : Progress) (t region : List ℕ) (fs : List
         formula-fine = h .holding .formula-fine;
         kinds = rw (rows-alone l next (st .body) 0 p .0) (h .holding .kinds);
         listed = rows-listed l next p (st .body) (h .holding .listed) f;
-        geometry = rw (rows-alone l next (st .body) (length next) p .2) (h .holding .geometry);
+        geometry = rw (rows-alone l next (st .body) (length next) p .3) (h .holding .geometry);
       };
     }
 
@@ -161,7 +162,7 @@ module _ (l : ListOf) (at : ℕ) (p : Progress) (t region : List ℕ) (fs : List
         go (refused n) e s = rw (line-is (refused n) e, s) (refl, refl)
 
 pub rows-gather : (l : ListOf) (code k place : ℕ) (fs : List Bytes) (p : Progress) (t region : List ℕ) (r : LineAfter)
-    → Own code (codeOf l) (countOf l p) (limitOf l) p → Told (sizeOf l) (countOf l p) (limitOf l) place p (take (sizeOf l) (drop (fromOf l) t)) region r (RowsShown l place p t region fs r) → length t ≡ 2972
+    → Own code (codeOf l) (countOf l p) (limitOf l) p → Told (sizeOf l) (countOf l p) (limitOf l) place p (take (sizeOf l) (drop (fromOf l) t)) region r (RowsShown l place p t region fs r) → length t ≡ 2973
     → Gathered code k place fs p t (putMid (fromOf l) (sizeOf l) t region) r
 rows-gather l code k place fs p t region r =
     told-gathers code k place fs p t region r (codeOf l) (fromOf l) (sizeOf l) (countOf l p) (limitOf l) (RowsShown l place p t region fs r) (region-within l) (λ n c. counted-kept l n p c)
@@ -197,6 +198,7 @@ module _ (at : ℕ) (p : Progress) (t region : List ℕ) (fs : List Bytes) (r : 
           counts = λ l. elim l [ Bonds ↦ old .counts Bonds | Charges ↦ old .counts Charges | Radicals ↦ old .counts Radicals | Centres ↦ old .counts Centres | Pairs ↦ old .counts Pairs ];
           fits = λ l. elim l [ Bonds ↦ fit Bonds | Charges ↦ fit Charges | Radicals ↦ fit Radicals | Centres ↦ fit Centres | Pairs ↦ fit Pairs ];
           id = old .id;
+          handed = old .handed;
         }
 
     atoms-shown : (next : List Atom) → ((next ≡ st .body .atoms) ⊎ AtomAdded k (st .body .atoms) next) → region ≡ kindsRegion next → Shows k block at (withCount 6 (length next) p) (putMid 0 768 t region) (atomsPut st next)
@@ -228,7 +230,7 @@ module _ (at : ℕ) (p : Progress) (t region : List ℕ) (fs : List Bytes) (r : 
         go (refused n) e s = rw (line-is (refused n) e, s) (refl, refl)
 
 pub atoms-gather : (code k place : ℕ) (fs : List Bytes) (p : Progress) (t region : List ℕ) (r : LineAfter)
-    → Own code 6 (p .atoms) 256 p → Told 768 (p .atoms) 256 place p (take 768 (drop 0 t)) region r (AtomsShown place p t region fs r k) → length t ≡ 2972
+    → Own code 6 (p .atoms) 256 p → Told 768 (p .atoms) 256 place p (take 768 (drop 0 t)) region r (AtomsShown place p t region fs r k) → length t ≡ 2973
     → Gathered code k place fs p t (putMid 0 768 t region) r
 atoms-gather code k place fs p t region r =
     told-gathers code k place fs p t region r 6 0 768 (p .atoms) 256 (AtomsShown place p t region fs r k) (omega arith)

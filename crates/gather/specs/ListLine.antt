@@ -4,7 +4,7 @@ use mathlib.Core.Path.{_≡_}
 use mathlib.Core.List.{List}
 use lib.ListN.{length}
 use Rattle.format.specs.Bytes.{Bytes}
-use Rattle.format.specs.Labels.{Holds, Text, Version, Formula, BlockId, Atoms, Rows, Xyz, End, Skipped, known}
+use Rattle.format.specs.Labels.{Holds, Text, Version, Formula, BlockId, Atoms, Rows, Xyz, Handedness, End, Skipped, known}
 use Rattle.format.specs.Reading.{State, atomLine, rowLine}
 use Rattle.format.specs.Reading.{Go as going, Turn as Turned}
 use Rattle.labels.specs.ShownLines.{byCode}
@@ -24,6 +24,7 @@ heldLine BlockId k st fs = going st
 heldLine Atoms k st fs = atomLine k st fs
 heldLine (Rows l) k st fs = rowLine l st fs
 heldLine (Xyz x) k st fs = going st
+heldLine Handedness k st fs = going st
 heldLine End k st fs = going st
 heldLine Skipped k st fs = going st
 
@@ -53,7 +54,7 @@ abbrev pub ownMost : (code : ℕ) → ℕ
 ownMost code = ofList code 256 512 64 64 128 128
 
 pub record ListLent (code : ℕ) (p : Progress) (t : List ℕ) : Type 0 where
-  pub long : length t ≡ 2972
+  pub long : length t ≡ 2973
   pub atoms : p .atoms ≤ 256
   pub rows : ownRows code p ≤ ownMost code
 

@@ -43,7 +43,7 @@ countOf Centres p = p .centres
 countOf Pairs p = p .pairs
 
 -- The scratch of a state: the atoms from 0 on, charges from 768, radicals from 1,089, bonds from 1,410, centres from 2,434, pairs from 2,690, labels seen from
--- 2,946, the geometry from 2,963 to 2,971
+-- 2,946, the geometry from 2,964 to 2,972
 unfoldable pub laid : State → List ℕ
 laid st =
     kindsRegion (st .body .atoms)
@@ -52,7 +52,7 @@ laid st =
     ++ (keyedRegion Bonds (st .body .bonds)
     ++ (keyedRegion Centres (st .body .centres)
     ++ (keyedRegion Pairs (st .body .pairs)
-    ++ (seenFrom 17 0 (st .seen) ++ geometryRegion (st .geometry)))))))
+    ++ (seenFrom 18 0 (st .seen) ++ geometryRegion (st .geometry)))))))
 
 -- What holds of the numbers alone: each count within its limit
 pub record Counted (p : Progress) : Type 0 where
@@ -71,7 +71,7 @@ pub record Within (size : ℕ) (x : Part) : Type 0 where
 -- and each part within the block
 pub record Bounded (size : ℕ) (p : Progress) : Type 0 where
   pub counted : Counted p
-  pub code : p .running < 17
+  pub code : p .running < 18
   pub title : Within size (p .title)
   pub origin : Within size (p .origin)
   pub owner : Within size (p .owner)
@@ -104,6 +104,7 @@ recounted p q = record {
   centres = q .centres;
   pairs = q .pairs;
   id = p .id;
+  handed = p .handed;
 }
 
 -- the same counts of rows, all else as given
@@ -122,6 +123,7 @@ altered running top title origin owner formula atoms id p = record {
   centres = p .centres;
   pairs = p .pairs;
   id = id;
+  handed = p .handed;
 }
 
 -- p with another count of the list whose label has the code
@@ -143,6 +145,7 @@ withCount code c p = record {
   centres = countFor code 10 c (p .centres);
   pairs = countFor code 11 c (p .pairs);
   id = p .id;
+  handed = p .handed;
 }
 
 abbrev pub CountedTurn : Progress → Turn → Type 0
@@ -159,6 +162,7 @@ pub record Listed (p : Progress) (s : Structure) : Type 0 where
   pub counts : (l : ListOf) → length (rowsOf l s) ≡ countOf l p
   pub fits : (l : ListOf) → Fits l (p .atoms) (rowsOf l s)
   pub id : s .id ≡ p .id
+  pub handed : s .handed ≡ p .handed
 
 -- an entry of a formula whose line was taken: a known element, mass and count in range
 abbrev pub entryFine : (k : ℕ) → Entry → Bool

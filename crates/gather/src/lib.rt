@@ -31,7 +31,7 @@ pub fn list_turn(
     p: Progress,
     scratch: &mut [u32],
 ) -> Turn
-    ensures { λ r. ⌜ (length (now (scratch .exit)) ≡ length (now (scratch .entry))) × (length (now (scratch .entry)) ≡ 2972 → Counted p → 1 ≤ last → 6 ≤ code → code ≤ 11 → CountedTurn p r × ((block : Bytes) (st : State) → Shows last block place p (now (scratch .entry)) st →
+    ensures { λ r. ⌜ (length (now (scratch .exit)) ≡ length (now (scratch .entry))) × (length (now (scratch .entry)) ≡ 2973 → Counted p → 1 ≤ last → 6 ≤ code → code ≤ 11 → CountedTurn p r × ((block : Bytes) (st : State) → Shows last block place p (now (scratch .entry)) st →
         ShowsTurn last block place r (now (scratch .exit)) (listLine code last st (fields (now (line .entry))))))
         × ((ListLent code p (now (scratch .entry)) → ⊥) → TurnUntouched place (now (scratch .entry)) (now (scratch .exit)) r) ⌝ }
 {

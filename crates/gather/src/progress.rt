@@ -6,7 +6,8 @@ pub struct Part {
     pub to: usize,
 }
 
-// `running` is the code of the running record's label (0: skipped), `top` the highest beginning of an interval among the labels seen (0: none was seen).
+// `running` is the code of the running record's label (0: skipped), `top` the highest beginning of an interval among the labels seen (0: none was seen). `handed` is
+// whether the YES of STEREOMOLECULE stands.
 pub struct Progress {
     pub running: u32,
     pub top: u32,
@@ -21,6 +22,7 @@ pub struct Progress {
     pub centres: usize,
     pub pairs: usize,
     pub id: u32,
+    pub handed: bool,
 }
 
 // A line's turn: what is known behind it, or the refusal's number and the place of its line.

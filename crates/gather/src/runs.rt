@@ -22,8 +22,8 @@ pub struct Run {
 
 // The quick rows of ATOMLIST from `at` on, `atoms` atoms there and the elements known up to `last`: "Numbers run 1, 2, 3 and on."
 pub fn atom_run(block: &[u8], at: usize, last: u32, atoms: usize, scratch: &mut [u32]) -> Run
-    requires { ⌜ length (now scratch) ≡ 2972 ⌝ }
-    ensures { λ r. ⌜ (length (now (scratch .exit)) ≡ 2972) × AtomsRan last (now (block .entry)) at atoms (now (scratch .entry)) (now (scratch .exit)) r ⌝ }
+    requires { ⌜ length (now scratch) ≡ 2973 ⌝ }
+    ensures { λ r. ⌜ (length (now (scratch .exit)) ≡ 2973) × AtomsRan last (now (block .entry)) at atoms (now (scratch .entry)) (now (scratch .exit)) r ⌝ }
 {
     let mut place = at;
     let mut count = atoms;
@@ -55,8 +55,8 @@ pub fn atom_run(block: &[u8], at: usize, last: u32, atoms: usize, scratch: &mut 
 
 // The quick rows of BONDLIST from `at` on, `bonds` bonds there and `atoms` atoms listed.
 pub fn bond_run(block: &[u8], at: usize, atoms: usize, bonds: usize, scratch: &mut [u32]) -> Run
-    requires { ⌜ length (now scratch) ≡ 2972 ⌝ }
-    ensures { λ r. ⌜ (length (now (scratch .exit)) ≡ 2972) × BondsRan (now (block .entry)) at atoms bonds (now (scratch .entry)) (now (scratch .exit)) r ⌝ }
+    requires { ⌜ length (now scratch) ≡ 2973 ⌝ }
+    ensures { λ r. ⌜ (length (now (scratch .exit)) ≡ 2973) × BondsRan (now (block .entry)) at atoms bonds (now (scratch .entry)) (now (scratch .exit)) r ⌝ }
 {
     let mut place = at;
     let mut count = bonds;

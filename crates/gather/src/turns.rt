@@ -25,8 +25,8 @@ pub fn line_after(
     p: Progress,
     scratch: &mut [u32],
 ) -> LineAfter
-    requires { ⌜ length (now scratch) ≡ 2972 ⌝ }
-    ensures { λ r. ⌜ (length (now (scratch .exit)) ≡ 2972) × Gathers code last place (fields (now (line .entry))) p (now (scratch .entry)) (now (scratch .exit)) (turnOf code p r)
+    requires { ⌜ length (now scratch) ≡ 2973 ⌝ }
+    ensures { λ r. ⌜ (length (now (scratch .exit)) ≡ 2973) × Gathers code last place (fields (now (line .entry))) p (now (scratch .entry)) (now (scratch .exit)) (turnOf code p r)
         × ((ListLent code p (now (scratch .entry)) → ⊥) → LineUntouched place (now (scratch .entry)) (now (scratch .exit)) r) ⌝ }
 {
     match code {

@@ -34,7 +34,7 @@ counts-told p a b c r s =
     tells-by (leb (p .pairs) 128) (Counted p) (λ e. record { atoms = a; bonds = b; charges = c; radicals = r; centres = s; pairs = leb-true (p .pairs) 128 e })
     (λ e w. absurd (omega (arith, leb-false (p .pairs) 128 e, w .pairs)))
 
-pub bounds-told : (b : Bool) (size : ℕ) (p : Progress) → Counted p → p .running ≤ 16 → p .id ≤ 999999 → Within size (p .title) → Within size (p .origin) → Within size (p .owner)
+pub bounds-told : (b : Bool) (size : ℕ) (p : Progress) → Counted p → p .running ≤ 17 → p .id ≤ 999999 → Within size (p .title) → Within size (p .origin) → Within size (p .owner)
     → Tells b (Within size (p .formula)) → Tells b (Bounded size p)
 bounds-told true size p c r i t o w f = record { counted = c; code = omega arith; title = t; origin = o; owner = w; formula = f; id = i }
 bounds-told false size p c r i t o w f = λ h. f (h .formula)

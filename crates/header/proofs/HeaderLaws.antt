@@ -1,7 +1,8 @@
 -- The table's first sixteen numbers as they are put there: document 01, "The structure table" ("start and length in the block of title, origin, owner (empty: 0,
--- 0)"; "13 to 15 are 0"). Assumes nothing.
+-- 0)"; "13 to 15 are 0"); document 02, L4. Assumes nothing.
 use Prim.Native.Nat.{ℕ, _+_, _-_, _*_, _≤_, _<_}
 use mathlib.Core.Path.{_≡_, refl, sym, ap, _∙_}
+use mathlib.Core.Bool.{Bool, true, false}
 use mathlib.Core.List.{List, [], _∷_}
 use native.Mathlib.Omega.{arith}
 use lib.ListN.{length, take, drop, length-drop}
@@ -9,7 +10,7 @@ use lib.IntN.{ℤ, pos}
 use lib.Seq.{sets, length-sets, length-take-le}
 use Rattle.format.specs.Bytes.{Bytes, lead, trim}
 use Rattle.format.specs.Reading.{spanFrom, spanOf}
-use Rattle.format.specs.Table.{zeros, spanCells, textPlace}
+use Rattle.format.specs.Table.{zeros, spanCells, flag, textPlace}
 use Rattle.fields.specs.Trims.{Trimmed}
 use Rattle.fields.specs.declared.Field.{Field}
 use Rattle.gather.specs.Progress.{partOf, proseAt, Within}
@@ -71,12 +72,19 @@ pub text-placed : (t t′ vs : List ℤ) (i at : ℕ) → i < 3 → at ≡ textP
 text-placed t t′ vs i at h a e = e ∙ ap (λ k. placed t k vs) (a ∙ text-place i h)
 
 -- THE HEADER
-pub header-is : (t t₀ t₁ t₂ t₃ t₄ : List ℤ) (block : Bytes) (p : Progress) → length t ≡ 16 → t₀ ≡ zeros (length t) → t₁ ≡ placed t₀ 0 (countsOut p)
+-- the number that tells whether the molecule is handed as a whole
+pub handed-placed : (t t′ : List ℤ) (b : Bool) → b ≡ true → t′ ≡ placed t 13 (signedOf 1 ∷ []) → t′ ≡ placed t 13 (flag b ∷ [])
+handed-placed t t′ b h e = e ∙ ap (λ z. placed t 13 (z ∷ [])) (signed-small 1 (omega arith) ∙ ap flag (sym h))
+
+pub unhanded-placed : (t t′ : List ℤ) (b : Bool) → b ≡ false → t′ ≡ placed t 13 (signedOf 0 ∷ []) → t′ ≡ placed t 13 (flag b ∷ [])
+unhanded-placed t t′ b h e = e ∙ ap (λ z. placed t 13 (z ∷ [])) (signed-small 0 (omega arith) ∙ ap flag (sym h))
+
+pub header-is : (t t₀ t₁ t₂ t₃ t₄ t₅ : List ℤ) (block : Bytes) (p : Progress) → length t ≡ 16 → t₀ ≡ zeros (length t) → t₁ ≡ placed t₀ 0 (countsOut p)
     → t₂ ≡ placed t₁ 7 (spanCells (spanOf (proseAt block (p .title)))) → t₃ ≡ placed t₂ 9 (spanCells (spanOf (proseAt block (p .origin))))
-    → t₄ ≡ placed t₃ 11 (spanCells (spanOf (proseAt block (p .owner)))) → t₄ ≡ headerOut block p
+    → t₄ ≡ placed t₃ 11 (spanCells (spanOf (proseAt block (p .owner)))) → t₅ ≡ placed t₄ 13 (flag (p .handed) ∷ []) → t₅ ≡ headerOut block p
 unfolding zeros placed headerOut
-header-is t t₀ t₁ t₂ t₃ t₄ block p h a b c d e =
+header-is t t₀ t₁ t₂ t₃ t₄ t₅ block p h a b c d e f =
     let u : List ℤ = spanCells (spanOf (proseAt block (p .title))) in
     let v : List ℤ = spanCells (spanOf (proseAt block (p .origin))) in
     let w : List ℤ = spanCells (spanOf (proseAt block (p .owner))) in
-    e ∙ ap (λ l. sets l 11 w) (d ∙ ap (λ l. sets l 9 v) (c ∙ ap (λ l. sets l 7 u) (b ∙ ap (λ l. sets l 0 (countsOut p)) (a ∙ ap zeros h))))
+    f ∙ ap (λ l. sets l 13 (flag (p .handed) ∷ [])) (e ∙ ap (λ l. sets l 11 w) (d ∙ ap (λ l. sets l 9 v) (c ∙ ap (λ l. sets l 7 u) (b ∙ ap (λ l. sets l 0 (countsOut p)) (a ∙ ap zeros h)))))

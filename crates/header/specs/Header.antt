@@ -4,12 +4,12 @@ use mathlib.Core.Bool.{Bool, true, false}
 use lib.IntN.{ℤ, pos}
 use Rattle.format.specs.Bytes.{Bytes}
 use Rattle.format.specs.Reading.{spanOf}
-use Rattle.format.specs.Table.{spanCells}
+use Rattle.format.specs.Table.{spanCells, flag}
 use Rattle.gather.specs.Progress.{proseAt}
 use Rattle.gather.specs.declared.progress.Progress.{Progress}
 use Rattle.filling.specs.Filled.{signedOf}
 
--- the header: the counts and the id, the texts' spans, three zeros
+-- the header: the counts and the id, the texts' spans, whether the molecule is handed as a whole, two zeros
 abbrev pub countsOut : Progress → List ℤ
 countsOut p =
     signedOf (p .atoms) ∷ signedOf (p .bonds) ∷ signedOf (p .charges) ∷ signedOf (p .radicals) ∷ signedOf (p .centres) ∷ signedOf (p .pairs) ∷ signedOf (p .id) ∷ []
@@ -20,7 +20,7 @@ headerOut block p =
     ++ (spanCells (spanOf (proseAt block (p .title)))
     ++ (spanCells (spanOf (proseAt block (p .origin)))
     ++ (spanCells (spanOf (proseAt block (p .owner)))
-    ++ (pos 0 ∷ pos 0 ∷ pos 0 ∷ []))))
+    ++ (flag (p .handed) ∷ pos 0 ∷ pos 0 ∷ []))))
 
 -- an answer tells whether a fact holds
 abbrev pub Tells : Bool → Type 0 → Type 0

@@ -44,7 +44,7 @@ pub fn is_bounded(size: usize, p: Progress) -> bool
     if !is_counted(p) {
         return false;
     }
-    if 16 < p.running {
+    if 17 < p.running {
         return false;
     }
     if 999999 < p.id {

@@ -1,11 +1,13 @@
 // The table's first sixteen numbers: document 01, "The structure table" ("atoms, bonds, charge rows, radical rows, centres, pairs, block id (0 none)"; "start and
-// length in the block of title, origin, owner (empty: 0, 0)"; "13 to 15 are 0").
+// length in the block of title, origin, owner (empty: 0, 0)"; "13 to 15 are 0"); document 02, L4 ("Table number 13
+// becomes 1").
 pub mod guard; // guard.rt: whether progress is one that a reading leaves
 
 ghost use mathlib.Core.Path.{_≡_};
+ghost use mathlib.Core.List.{[], _∷_};
 ghost use Prim.Native.Nat.{_+_, _≤_};
 ghost use lib.ListN.{length};
-ghost use Rattle.format.specs.Table.{spanCells};
+ghost use Rattle.format.specs.Table.{spanCells, flag};
 ghost use Rattle.format.specs.Reading.{spanOf};
 ghost use Rattle.gather.specs.Progress.{proseAt, Counted, Within, Bounded};
 ghost use Rattle.filling.specs.Filled.{placed, FilledWhere};
@@ -45,6 +47,18 @@ fn put_text(part: &mut [i32], at: usize, block: &[u8], text: Part)
     filling::put(part, at + 1, (kept.to - kept.from) as u32);
 }
 
+// Whether the molecule is handed as a whole.
+fn put_handed(part: &mut [i32], handed: bool)
+    requires { ⌜ 14 ≤ length (now part) ⌝ }
+    ensures { λ _. ⌜ now (part .exit) ≡ placed (now (part .entry)) 13 (flag handed ∷ []) ⌝ }
+{
+    if handed {
+        filling::put(part, Table::HANDED, 1);
+        return;
+    }
+    filling::put(part, Table::HANDED, 0);
+}
+
 // The header, whatever stood there; a part of another length is as it was, and so is any where progress is none that a reading leaves.
 pub fn fill_header(part: &mut [i32], block: &[u8], p: Progress)
     ensures { λ _. ⌜ FilledWhere ((length (now (part .entry)) ≡ 16) × (length (now (block .entry)) ≤ 32768) × Bounded (length (now (block .entry))) p) (now (part .entry)) (now (part .exit)) (headerOut (now (block .entry)) p) ⌝ }
@@ -63,4 +77,5 @@ pub fn fill_header(part: &mut [i32], block: &[u8], p: Progress)
     put_text(part, Table::text(0), block, p.title);
     put_text(part, Table::text(1), block, p.origin);
     put_text(part, Table::text(2), block, p.owner);
+    put_handed(part, p.handed);
 }

@@ -50,11 +50,11 @@ use Rattle.judgement.specs.declared.rules.Rules.{Rules as Given}
 use Rattle.judgement.specs.declared.Judged.{Judged}
 use Rattle.judgement.specs.declared.Judged.the-variants as J
 use Rattle.judgement.proofs.TextTurnLaws.{counted-bounded, silent, flowing-silent}
-use Rattle.judgement.proofs.LabelTurnLaws.{over-code, nil-top}
-use Rattle.judgement.proofs.XyzTurnLaws.{rows-code}
+use Rattle.judgement.proofs.LabelTurnLaws.{nil-top}
+use Rattle.judgement.proofs.CodeLaws.{over-code, rows-code}
 
 -- BEFORE THE FIRST LINE
-laid-start : filled 0 2972 [] ≡ laid start
+laid-start : filled 0 2973 [] ≡ laid start
 unfolding filled laid start geometryRegion largestOf kindsRegion spreadRegion keyedRegion seenFrom membersFrom memberOf arrived voidOf most sort flat any
 laid-start = refl
 
@@ -73,9 +73,10 @@ start-listed = record {
   counts = λ l. elim l [ Bonds ↦ refl | Charges ↦ refl | Radicals ↦ refl | Centres ↦ refl | Pairs ↦ refl ];
   fits = λ l. rw (start-rows l) (fits-nil l 0);
   id = refl;
+  handed = refl;
 }
 
-pub start-shown : (k : ℕ) (block : Bytes) (t : List ℕ) → t ≡ filled 0 2972 [] → Shows k block 0 unreadYet t start
+pub start-shown : (k : ℕ) (block : Bytes) (t : List ℕ) → t ≡ filled 0 2973 [] → Shows k block 0 unreadYet t start
 unfolding start byCode known label lookup topOf formulaShape frun
 start-shown k block t e = record {
   place = refl;
@@ -139,12 +140,12 @@ start-stored : (store : List ℤ) → Stored store (start .geometry .rows)
 unfolding start
 start-stored store = stored-none store
 
-pub going-start : (u : Given) (block : Bytes) (p : Progress) (t : List ℕ) (store : List ℤ) → p ≡ unreadYet → t ≡ filled 0 2972 [] → Going u block 0 p t store
+pub going-start : (u : Given) (block : Bytes) (p : Progress) (t : List ℕ) (store : List ℤ) → p ≡ unreadYet → t ≡ filled 0 2973 [] → Going u block 0 p t store
 going-start u block p t store q e = rw q (record { state = start; shows = start-shown (u .last) block t e; noticed = start-begun; stored = start-stored store; goes = refl })
 
 -- all that holds before the first line, and what holds of a scratch of zeros
-pub holds-start : (u : Given) (block : Bytes) (p : Progress) (t : List ℕ) (store : List ℤ) → p ≡ unreadYet → length t ≡ 2972
-    → (0 ≤ length block) × (length t ≡ 2972) × (length store ≡ length store) × Bounded (length block) p × Flowing 0 p × (t ≡ filled 0 2972 [] → Going u block 0 p t store)
+pub holds-start : (u : Given) (block : Bytes) (p : Progress) (t : List ℕ) (store : List ℤ) → p ≡ unreadYet → length t ≡ 2973
+    → (0 ≤ length block) × (length t ≡ 2973) × (length store ≡ length store) × Bounded (length block) p × Flowing 0 p × (t ≡ filled 0 2973 [] → Going u block 0 p t store)
 holds-start u block p t store q l = (omega arith, l, refl, rw q (start-bounded (length block)), rw q start-flowing, going-start u block p t store q)
 
 pub bounded-go : (size : ℕ) (r : Turn) (q : Progress) → r ≡ Go q → BoundedTurn size r → Bounded size q
@@ -237,7 +238,7 @@ module _ (u : Given) (block : Bytes) (at : ℕ) (p : Progress) (t : List ℕ) (s
         record { state = y .state; shows = y .shows; noticed = ap (all (λ (y : Label). ltb 0 (y .low))) (y .seen) ∙ x .noticed; stored = y .stored; goes = x .goes ∙ y .goes }
 
     pub placed-on : (Zeroed : Type 0) (n : ℕ) → at ≤ length block → length store ≡ n → (Zeroed → (old : State) × Stored store (old .geometry .rows) × Gone u block at p t old)
-        → (r ≤ length block) × (length s ≡ 2972) × (length after ≡ n) × Bounded (length block) p × Flowing r p × (Zeroed → Going u block r p s after)
+        → (r ≤ length block) × (length s ≡ 2973) × (length after ≡ n) × Bounded (length block) p × Flowing r p × (Zeroed → Going u block r p s after)
     placed-on Zeroed n h l g = (placed .high h, placed .long, placed .stores ∙ l, b, flowing-silent r p (Go p) refl (ap silent sixteen), λ z. let x = g z in placed-going (x .0) (x .1) (x .2))
 
 -- A RUN OF QUICK ROWS, from where a line ended; what is known of a scratch of zeros stays known
@@ -260,8 +261,8 @@ module _ (u : Given) (block : Bytes) (at : ℕ) (p : Progress) (t s : List ℕ) 
       let x : Reached (rulesOf u) (u .last) block at (r .place) (r .known) s (g .state) = ran .goes (rulesOf u) (g .state) refl low (b .counted) (g .shows) in
       record { state = x .state; shows = x .shows; noticed = ap (all (λ (y : Label). ltb 0 (y .low))) (x .seen) ∙ g .noticed; stored = rw (x .rows) (g .stored); goes = g .goes ∙ x .goes }
 
-  pub ran-on : (Zeroed : Type 0) (n : ℕ) → 1 ≤ u .last → at ≤ length block → length s ≡ 2972 → length store ≡ n → Flowing at p → (Zeroed → Going u block at p t store)
-      → (r .place ≤ length block) × (length s ≡ 2972) × (length store ≡ n) × Bounded (length block) (r .known) × Flowing (r .place) (r .known) × (Zeroed → Going u block (r .place) (r .known) s store)
+  pub ran-on : (Zeroed : Type 0) (n : ℕ) → 1 ≤ u .last → at ≤ length block → length s ≡ 2973 → length store ≡ n → Flowing at p → (Zeroed → Going u block at p t store)
+      → (r .place ≤ length block) × (length s ≡ 2973) × (length store ≡ n) × Bounded (length block) (r .known) × Flowing (r .place) (r .known) × (Zeroed → Going u block (r .place) (r .known) s store)
   ran-on Zeroed n low h l w f g = (ran .high h, l, w, counted-bounded (length block) p (Go (r .known)) (ran .counted (b .counted)) b, ran-flowing f, λ z. ran-going low (g z))
 
 -- AT THE END
@@ -286,8 +287,8 @@ module _ (u : Given) (block : Bytes) (at : ℕ) (p : Progress) (t : List ℕ) (s
 -- WHAT A READING LENDS, and what it does not
 module _ (u : Given) (block : Bytes) (t : List ℕ) (store : List ℤ) where
   pub judges-unlent : (ReadingLent u t → ⊥) → Judges u block t t store store (J.Refused 0 0)
-  judges-unlent n = record { long = refl; stores = refl; unlent = λ h. (refl, refl, refl); shows = λ g z. absurd (n (record { long = ap length z ∙ filled-length 0 2972 [] (omega arith); ruled = g })) }
+  judges-unlent n = record { long = refl; stores = refl; unlent = λ h. (refl, refl, refl); shows = λ g z. absurd (n (record { long = ap length z ∙ filled-length 0 2973 [] (omega arith); ruled = g })) }
 
-  pub judges-lines : ReadingLent u t → (s : List ℕ) (after : List ℤ) (r : Judged) → (length s ≡ 2972) × (length after ≡ length store) × (t ≡ filled 0 2972 [] → ShowsJudged u block s after r)
+  pub judges-lines : ReadingLent u t → (s : List ℕ) (after : List ℤ) (r : Judged) → (length s ≡ 2973) × (length after ≡ length store) × (t ≡ filled 0 2973 [] → ShowsJudged u block s after r)
       → Judges u block t s store after r
   judges-lines l s after r h = record { long = h .0 ∙ sym (l .long); stores = h .1; unlent = λ n. absurd (n l); shows = λ g z. h .2 z }

@@ -30,36 +30,15 @@ use Rattle.gather.proofs.ListLineLaws.{turn-shown}
 use Rattle.judgement.specs.Lines.{rulesOf, labelTurn, begun}
 use Rattle.judgement.specs.declared.rules.Rules.{Rules as Given}
 use Rattle.judgement.proofs.SeenLaws.{known-told, Noted}
-use Rattle.judgement.proofs.LineTurnLaws.{stop-shown, listed-as, counted-as}
+use Rattle.judgement.proofs.LineTurnLaws.{stop-shown, listed-still, counted-as}
+use Rattle.judgement.proofs.CodeLaws.{over-code}
 use Rattle.judgement.proofs.TextTurnLaws.{part-length, part-drop}
-
--- ONLY END IS OVER
-pub over-code : (n : ℕ) → n < 17 → over (byCode n known .holds) ≡ eqb n 13
-unfolding byCode known label lookup
-over-code zero h = refl
-over-code (suc zero) h = refl
-over-code (suc (suc zero)) h = refl
-over-code (suc (suc (suc zero))) h = refl
-over-code (suc (suc (suc (suc zero)))) h = refl
-over-code (suc (suc (suc (suc (suc zero))))) h = refl
-over-code (suc (suc (suc (suc (suc (suc zero)))))) h = refl
-over-code (suc (suc (suc (suc (suc (suc (suc zero))))))) h = refl
-over-code (suc (suc (suc (suc (suc (suc (suc (suc zero)))))))) h = refl
-over-code (suc (suc (suc (suc (suc (suc (suc (suc (suc zero))))))))) h = refl
-over-code (suc (suc (suc (suc (suc (suc (suc (suc (suc (suc zero)))))))))) h = refl
-over-code (suc (suc (suc (suc (suc (suc (suc (suc (suc (suc (suc zero))))))))))) h = refl
-over-code (suc (suc (suc (suc (suc (suc (suc (suc (suc (suc (suc (suc zero)))))))))))) h = refl
-over-code (suc (suc (suc (suc (suc (suc (suc (suc (suc (suc (suc (suc (suc zero))))))))))))) h = refl
-over-code (suc (suc (suc (suc (suc (suc (suc (suc (suc (suc (suc (suc (suc (suc zero)))))))))))))) h = refl
-over-code (suc (suc (suc (suc (suc (suc (suc (suc (suc (suc (suc (suc (suc (suc (suc zero))))))))))))))) h = refl
-over-code (suc (suc (suc (suc (suc (suc (suc (suc (suc (suc (suc (suc (suc (suc (suc (suc zero)))))))))))))))) h = refl
-over-code (suc (suc (suc (suc (suc (suc (suc (suc (suc (suc (suc (suc (suc (suc (suc (suc (suc n))))))))))))))))) h = absurd (omega arith)
 
 -- THE LABEL NOTED
 abbrev pub withLabel : (code top : ℕ) → Progress → Progress
 withLabel code top p = altered code top (p .title) (p .origin) (p .owner) (p .formula) (p .atoms) (p .id) p
 
-pub label-bounded : (size code top : ℕ) (p : Progress) → code < 17 → Bounded size p → Bounded size (withLabel code top p)
+pub label-bounded : (size code top : ℕ) (p : Progress) → code < 18 → Bounded size p → Bounded size (withLabel code top p)
 label-bounded size code top p h b = record {
   counted = counted-as p (withLabel code top p) (b .counted) refl refl refl refl refl refl;
   code = h;
@@ -70,16 +49,16 @@ label-bounded size code top p h b = record {
   id = b .id;
 }
 
-module _ (block : Bytes) (at from end code : ℕ) (u : Given) (p : Progress) (t : List ℕ) (long : length t ≡ 2972) (b : Bounded (length block) p) (small : code < 17) where
+module _ (block : Bytes) (at from end code : ℕ) (u : Given) (p : Progress) (t : List ℕ) (long : length t ≡ 2973) (b : Bounded (length block) p) (small : code < 18) where
   abbrev pub LabelPromise : Turn → List ℕ → Type 0
   LabelPromise r s =
-      (length s ≡ 2972) × BoundedTurn (length block) r × FlowingTurn end r
+      (length s ≡ 2973) × BoundedTurn (length block) r × FlowingTurn end r
       × ((st : State) → Shows (u .last) block at p t st → ShowsTurn (u .last) block at r s (labelTurn (rulesOf u) st from (byCode code known) (partOf block from end)))
 
-  module _ (w : Bool) (told : (labels : List Label) → take 17 (drop 2946 t) ≡ seenFrom 17 0 labels → p .top ≡ topOf labels → w ≡ misplaced labels (byCode code known)) where
+  module _ (w : Bool) (told : (labels : List Label) → take 18 (drop 2946 t) ≡ seenFrom 18 0 labels → p .top ≡ topOf labels → w ≡ misplaced labels (byCode code known)) where
     module _ (st : State) (s : Shows (u .last) block at p t st) where
-      label-seen : take 17 (drop 2946 t) ≡ seenFrom 17 0 (st .seen)
-      label-seen = ap (λ (l : List ℕ). take 17 (drop 2946 l)) (s .holding .scratch) ∙ seen-seated st (sized p st (b .counted) (s .holding .listed)) .0
+      label-seen : take 18 (drop 2946 t) ≡ seenFrom 18 0 (st .seen)
+      label-seen = ap (λ (l : List ℕ). take 18 (drop 2946 l)) (s .holding .scratch) ∙ seen-seated st (sized p st (b .counted) (s .holding .listed)) .0
 
       order-is : (x : Bool) → w ≡ x → misplaced (st .seen) (byCode code known) ≡ x
       order-is x e = sym (told (st .seen) label-seen (s .top)) ∙ e
@@ -100,8 +79,8 @@ module _ (block : Bytes) (at from end code : ℕ) (u : Given) (p : Progress) (t 
     label-over e f = (long, tt, tt, λ st s. stop-shown (u .last) block at t 17 _ (label-is st s false true e (eq-eqb (p .running) 13 f)))
 
     module _ (e : w ≡ false) (n : p .running ≡ 13 → ⊥) (cells : List ℕ) (top : ℕ)
-        (note : (labels : List Label) → take 17 (drop 2946 t) ≡ seenFrom 17 0 labels → p .top ≡ topOf labels → Noted cells top code labels) where
-      opened-shown : (st : State) → Shows (u .last) block at p t st → Shows (u .last) block at (withLabel code top p) (putMid 2946 17 t cells) (opened st (byCode code known))
+        (note : (labels : List Label) → take 18 (drop 2946 t) ≡ seenFrom 18 0 labels → p .top ≡ topOf labels → Noted cells top code labels) where
+      opened-shown : (st : State) → Shows (u .last) block at p t st → Shows (u .last) block at (withLabel code top p) (putMid 2946 18 t cells) (opened st (byCode code known))
       unfolding laid
       opened-shown st s =
           let x : Label = byCode code known in
@@ -112,21 +91,20 @@ module _ (block : Bytes) (at from end code : ℕ) (u : Given) (p : Progress) (t 
             running = refl;
             top = d .1 ∙ ap topOf q;
             holding = record {
-              scratch = ap (λ (l : List ℕ). putMid 2946 17 l cells) (s .holding .scratch) ∙ ap (putMid 2946 17 (laid st)) (d .0 ∙ ap (seenFrom 17 0) q)
+              scratch = ap (λ (l : List ℕ). putMid 2946 18 l cells) (s .holding .scratch) ∙ ap (putMid 2946 18 (laid st)) (d .0 ∙ ap (seenFrom 18 0) q)
                   ∙ seen-seated st (sized p st (b .counted) (s .holding .listed)) .1 (x .holds) (noted (x .code) x (st .seen));
               texts = s .holding .texts;
               formula = s .holding .formula;
               formula-fine = s .holding .formula-fine;
               kinds = s .holding .kinds;
-              listed = listed-as p (withLabel code top p) (st .body .id) st (s .holding .listed) refl (λ l. elim l [ Bonds ↦ refl | Charges ↦ refl | Radicals ↦ refl | Centres ↦ refl | Pairs ↦ refl ])
-                  (s .holding .listed .id);
+              listed = listed-still p (withLabel code top p) (st .body) (s .holding .listed) refl (λ l. elim l [ Bonds ↦ refl | Charges ↦ refl | Radicals ↦ refl | Centres ↦ refl | Pairs ↦ refl ]) refl refl;
               geometry = s .holding .geometry;
             };
           }
 
       pub label-value : (r : Turn) (s : List ℕ)
-          → (length s ≡ 2972) × BoundedTurn (length block) r × FlowingTurn end r
-          × ((st : State) → Shows (u .last) block at (withLabel code top p) (putMid 2946 17 t cells) st → ShowsTurn (u .last) block at r s (valueTurn (rulesOf u) (byCode code known .holds) st from (partOf block from end)))
+          → (length s ≡ 2973) × BoundedTurn (length block) r × FlowingTurn end r
+          × ((st : State) → Shows (u .last) block at (withLabel code top p) (putMid 2946 18 t cells) st → ShowsTurn (u .last) block at r s (valueTurn (rulesOf u) (byCode code known .holds) st from (partOf block from end)))
           → LabelPromise r s
       label-value r s q = (
         q .0,
@@ -151,10 +129,10 @@ line-labelled : (u : Rules) (st : State) (l : Bytes) (x : Label) (value from : �
 unfolding lineTurn
 line-labelled u st l x value from e q = ap (lineTurn u st l) e ∙ ap (λ (n : ℕ). labelTurn u st n x (drop value l)) q
 
-module _ (block : Bytes) (at end : ℕ) (u : Given) (p : Progress) (t : List ℕ) (long : length t ≡ 2972) (h : at ≤ end) (l : end ≤ length block) (clean : all allowed (partOf block at end) ≡ true) (r : LineKind) (shows : ShowsLine (partOf block at end) r) where
+module _ (block : Bytes) (at end : ℕ) (u : Given) (p : Progress) (t : List ℕ) (long : length t ≡ 2973) (h : at ≤ end) (l : end ≤ length block) (clean : all allowed (partOf block at end) ≡ true) (r : LineKind) (shows : ShowsLine (partOf block at end) r) where
   abbrev pub StepPromise : Turn → List ℕ → Type 0
   StepPromise r s =
-      (length s ≡ 2972) × BoundedTurn (length block) r × FlowingTurn end r
+      (length s ≡ 2973) × BoundedTurn (length block) r × FlowingTurn end r
       × ((st : State) → Shows (u .last) block at p t st → begun st ≡ true → ShowsTurn (u .last) block at r s (lineStep (rulesOf u) st (partOf block at end)))
 
   line-is : (k : LineKind) → r ≡ k → lineOf (partOf block at end) ≡ shownLine (partOf block at end) k
@@ -197,7 +175,7 @@ module _ (block : Bytes) (at end : ℕ) (u : Given) (p : Progress) (t : List ℕ
   )
 
   pub plain-step : (a : Turn) (s : List ℕ) → r ≡ K.Plain → (p .top ≡ 0 → ⊥)
-      → (length s ≡ 2972) × BoundedTurn (length block) a × FlowingTurn end a
+      → (length s ≡ 2973) × BoundedTurn (length block) a × FlowingTurn end a
       × ((st : State) → Shows (u .last) block at p t st → ShowsTurn (u .last) block at a s (furtherTurn (rulesOf u) (st .running) st (partOf block at end))) → StepPromise a s
   plain-step a s e z q = (
     q .0,
@@ -223,7 +201,7 @@ module _ (block : Bytes) (at end : ℕ) (u : Given) (p : Progress) (t : List ℕ
           (long, tt, tt, λ st s g. stop-shown (u .last) block at t 4 _ (step-first (rulesOf u) st (partOf block at end) clean (seen-nil st s g ∙ q .0) (not-true (titleLine (partOf block at end)) (q .1))))
 
       pub label-step : (a : Turn) (s : List ℕ) → late ≡ false
-          → (length s ≡ 2972) × BoundedTurn (length block) a × FlowingTurn end a
+          → (length s ≡ 2973) × BoundedTurn (length block) a × FlowingTurn end a
           × ((st : State) → Shows (u .last) block at p t st → ShowsTurn (u .last) block at a s (labelTurn (rulesOf u) st (at + value) (byCode code known) (partOf block (at + value) end))) → StepPromise a s
       label-step a s f q = (
         q .0,

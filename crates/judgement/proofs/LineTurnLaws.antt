@@ -1,35 +1,31 @@
--- The turns of a value on its label line, of a blank line and of END, from what the code's answers say: document 01, "Rows" and "Refusal numbers". Assumes nothing.
-use Prim.Native.Nat.{ℕ, zero, suc, _≤_, _<_}
+-- The turns of a value on its label line and of a blank line, from what the code's answers say: document 01, "Rows" and "Refusal numbers". Assumes nothing.
+use Prim.Native.Nat.{ℕ, zero, suc, _≤_}
 use mathlib.Core.Path.{_≡_, refl, sym, ap, _∙_}
-use mathlib.Core.Bool.{Bool, true, false, _&&_, _||_, not}
+use mathlib.Core.Bool.{Bool, true, false, not}
 use mathlib.Core.Option.{Option, none, some}
-use mathlib.Core.List.{List, [], _∷_}
+use mathlib.Core.List.{List}
 use native.Mathlib.Omega.{arith}
-use lib.ListN.{length, take, drop}
-use lib.Seq.{length-take-le}
-use lib.Dec.{eqb}
+use lib.ListN.{length}
 use borrow.Author.Tests.{eq-eqb, ne-eqb}
-use Rattle.lists.specs.Lists.{isNil, all, any}
+use Rattle.lists.specs.Lists.{all, any}
 use Rattle.format.specs.Bytes.{Bytes, gap}
-use Rattle.format.specs.Labels.{ListOf, Bonds, Charges, Radicals, Centres, Pairs, Label}
+use Rattle.format.specs.Labels.{ListOf, Bonds, Charges, Radicals, Centres, Pairs}
 use Rattle.format.specs.Formula.{Counted as Told, formulaShape}
-use Rattle.format.specs.Structure.{Atom, rowsOf, unknown, atomOk, entriesOf, agree}
-use Rattle.format.specs.Reading.{State, if_stop_else_, withBody, withId, withFormula, atomCount, versionTurn, idTurn, formulaTurn, blankOr, lacks, endTurn}
+use Rattle.format.specs.Structure.{Structure, rowsOf, unknown}
+use Rattle.format.specs.Reading.{State, if_stop_else_, withBody, withId, withFormula, versionTurn, idTurn, formulaTurn, blankOr}
 use Rattle.format.specs.Reading.{Go as going, Stop as stopping, Turn as Turned}
 use Rattle.molform.specs.Verdicts.{verdictOf, entriesVerdict, formulaVerdict, turnOf}
 use Rattle.molform.specs.Totals.{formulaEntries}
 use Rattle.molform.proofs.VerdictLaws.{formula-turn}
-use Rattle.sorted.specs.Regions.{kindsRegion, seenFrom, Fits}
-use Rattle.gather.specs.Progress.{partOf, countOf, entriesFrom, formulaAt, laid, Counted, Bounded, Listed, entryFine, altered}
+use Rattle.sorted.specs.Regions.{Fits}
+use Rattle.gather.specs.Progress.{partOf, countOf, entriesFrom, laid, Counted, Bounded, Listed, entryFine, altered}
 use Rattle.gather.specs.Shows.{Shows, ShowsTurn}
 use Rattle.gather.specs.declared.progress.Part.{Part}
 use Rattle.gather.specs.declared.progress.Progress.{Progress}
 use Rattle.gather.specs.declared.progress.Turn.the-variants.{Go, Stop}
-use Rattle.gather.proofs.LaidLaws.{sized, atoms-seated, seen-seated}
 use Rattle.gather.proofs.KindLaws.{countedIn, formula-fine}
-use Rattle.judgement.specs.Lines.{rulesOf, withTexts, textPut, geometryEnd}
+use Rattle.judgement.specs.Lines.{withTexts, textPut}
 use Rattle.judgement.specs.Values.{ShowsId}
-use Rattle.judgement.specs.declared.rules.Rules.{Rules as Given}
 use Rattle.judgement.specs.declared.values.BlockId.{BlockId as Answered}
 use Rattle.judgement.specs.declared.values.BlockId.the-variants as Id
 use Rattle.judgement.proofs.ValueLaws.{isVersion}
@@ -68,18 +64,26 @@ withNumber n p = altered (p .running) (p .top) (p .title) (p .origin) (p .owner)
 pub counted-as : (p q : Progress) → Counted p → q .atoms ≡ p .atoms → q .bonds ≡ p .bonds → q .charges ≡ p .charges → q .radicals ≡ p .radicals → q .centres ≡ p .centres → q .pairs ≡ p .pairs → Counted q
 counted-as p q h a b c r s t = record { atoms = rw a (h .atoms); bonds = rw b (h .bonds); charges = rw c (h .charges); radicals = rw r (h .radicals); centres = rw s (h .centres); pairs = rw t (h .pairs) }
 
--- the lists and their counts stay where only the block's id may change
-pub listed-as : (p q : Progress) (n : ℕ) (st : State) → Listed p (st .body) → q .atoms ≡ p .atoms → ((l : ListOf) → countOf l q ≡ countOf l p) → n ≡ q .id → Listed q (withId n (st .body))
+-- the lists and their counts stay where only the block's id and whether it is handed may change
+abbrev marked : (id : ℕ) (handed : Bool) → Structure → Structure
+marked n y s = record { atoms = s .atoms; bonds = s .bonds; charges = s .charges; radicals = s .radicals; centres = s .centres; pairs = s .pairs; id = n; handed = y }
+
+pub listed-as : (p q : Progress) (n : ℕ) (y : Bool) (s : Structure) → Listed p s → q .atoms ≡ p .atoms → ((l : ListOf) → countOf l q ≡ countOf l p) → n ≡ q .id → y ≡ q .handed → Listed q (marked n y s)
 unfolding rowsOf
-listed-as p q n st h a e i =
-    let f : (l : ListOf) → Fits l (q .atoms) (rowsOf l (st .body)) = λ l. rw a (h .fits l) in
-    let g : (l : ListOf) → length (rowsOf l (st .body)) ≡ countOf l q = λ l. h .counts l ∙ sym (e l) in
+listed-as p q n y s h a e i j =
+    let f : (l : ListOf) → Fits l (q .atoms) (rowsOf l s) = λ l. rw a (h .fits l) in
+    let g : (l : ListOf) → length (rowsOf l s) ≡ countOf l q = λ l. h .counts l ∙ sym (e l) in
     record {
       atoms = h .atoms ∙ sym a;
       counts = λ l. elim l [ Bonds ↦ g Bonds | Charges ↦ g Charges | Radicals ↦ g Radicals | Centres ↦ g Centres | Pairs ↦ g Pairs ];
       fits = λ l. elim l [ Bonds ↦ f Bonds | Charges ↦ f Charges | Radicals ↦ f Radicals | Centres ↦ f Centres | Pairs ↦ f Pairs ];
       id = i;
+      handed = j;
     }
+
+-- and they stay where neither changes
+pub listed-still : (p q : Progress) (s : Structure) → Listed p s → q .atoms ≡ p .atoms → ((l : ListOf) → countOf l q ≡ countOf l p) → q .id ≡ p .id → q .handed ≡ p .handed → Listed q s
+listed-still p q s h a e i j = listed-as p q (s .id) (s .handed) s h a e (h .id ∙ sym i) (h .handed ∙ sym j)
 
 module _ (fs : List Bytes) (r : Answered) (s : ShowsId fs r) where
   pub id-good : (n : ℕ) → r ≡ Id.Value n → ((st : State) → idTurn st fs ≡ going (withBody st (withId n (st .body)))) × (n ≤ 999999)
@@ -111,7 +115,7 @@ id-shown n k block at p t st h = record {
     formula = h .holding .formula;
     formula-fine = h .holding .formula-fine;
     kinds = h .holding .kinds;
-    listed = listed-as p (withNumber n p) n st (h .holding .listed) refl (λ l. elim l [ Bonds ↦ refl | Charges ↦ refl | Radicals ↦ refl | Centres ↦ refl | Pairs ↦ refl ]) refl;
+    listed = listed-as p (withNumber n p) n (st .body .handed) (st .body) (h .holding .listed) refl (λ l. elim l [ Bonds ↦ refl | Charges ↦ refl | Radicals ↦ refl | Centres ↦ refl | Pairs ↦ refl ]) refl (h .holding .listed .handed);
     geometry = h .holding .geometry;
   };
 }
@@ -158,7 +162,7 @@ formula-shown k block at from to n p t st low e z h = record {
     formula = refl;
     formula-fine = taken-fine k (partOf block from to) (formulaShape (partOf block from to)) low refl (sym e ∙ z);
     kinds = h .holding .kinds;
-    listed = listed-as p (withPart (record { from = from; to = to }) p) (st .body .id) st (h .holding .listed) refl (λ l. elim l [ Bonds ↦ refl | Charges ↦ refl | Radicals ↦ refl | Centres ↦ refl | Pairs ↦ refl ]) (h .holding .listed .id);
+    listed = listed-still p (withPart (record { from = from; to = to }) p) (st .body) (h .holding .listed) refl (λ l. elim l [ Bonds ↦ refl | Charges ↦ refl | Radicals ↦ refl | Centres ↦ refl | Pairs ↦ refl ]) refl refl;
     geometry = h .holding .geometry;
   };
 }
@@ -187,63 +191,3 @@ module _ (c : ℕ) (x : Part) (p : Progress) where
   pub text-owner : (c ≡ 1 → ⊥) → (c ≡ 3 → ⊥) → textPut c x p ≡ withTexts (p .title) (p .origin) x p
   unfolding textPut
   text-owner a b = rw (ne-eqb c 1 a, ne-eqb c 3 b, textPut)
-
--- END
-some-of : (n : ℕ) → (n ≡ 0 → ⊥) → 0 < n
-some-of zero h = absurd (h refl)
-some-of (suc n) h = omega arith
-
-module _ (u : Given) (block : Bytes) (at : ℕ) (p : Progress) (t : List ℕ) (st : State) (c : Counted p) (h : Shows (u .last) block at p t st) (fs : List Bytes) where
-  seen-part : take 17 (drop 2946 t) ≡ seenFrom 17 0 (st .seen)
-  seen-part = ap (λ (s : List ℕ). take 17 (drop 2946 s)) (h .holding .scratch) ∙ seen-seated st (sized p st c (h .holding .listed)) .0
-
-  abbrev LacksTold : Bool → Type 0
-  LacksTold b = (labels : List Label) → take 17 (drop 2946 t) ≡ seenFrom 17 0 labels → b ≡ any (lacks labels) (2 ∷ 3 ∷ 4 ∷ 5 ∷ [])
-
-  end-is : (a b f g : Bool) → any (lacks (st .seen)) (2 ∷ 3 ∷ 4 ∷ 5 ∷ []) ≡ a → eqb (atomCount st) 0 ≡ b → isNil fs ≡ f → (u .totals && not (agree (st .formula) (entriesOf (st .body .atoms)))) ≡ g
-      → endTurn (rulesOf u) st fs ≡ (if a || b stop 8 else if not f stop 9 else if g stop 15 else geometryEnd st)
-  unfolding endTurn
-  end-is a b f g p q r s =
-      ap (λ (x : Bool). if x || eqb (atomCount st) 0 stop 8 else if not (isNil fs) stop 9 else if u .totals && not (agree (st .formula) (entriesOf (st .body .atoms))) stop 15 else geometryEnd st) p
-      ∙ ap (λ (x : Bool). if a || x stop 8 else if not (isNil fs) stop 9 else if u .totals && not (agree (st .formula) (entriesOf (st .body .atoms))) stop 15 else geometryEnd st) q
-      ∙ ap (λ (x : Bool). if a || b stop 8 else if not x stop 9 else if u .totals && not (agree (st .formula) (entriesOf (st .body .atoms))) stop 15 else geometryEnd st) r
-      ∙ ap (λ (x : Bool). if a || b stop 8 else if not f stop 9 else if x stop 15 else geometryEnd st) s
-
-  none-listed : (p .atoms ≡ 0 → ⊥) → eqb (atomCount st) 0 ≡ false
-  none-listed n = ne-eqb (atomCount st) 0 (λ e. n (sym (h .holding .listed .atoms) ∙ e))
-
-  module _ (lack : Bool) (told : LacksTold lack) where
-    lack-is : (b : Bool) → lack ≡ b → any (lacks (st .seen)) (2 ∷ 3 ∷ 4 ∷ 5 ∷ []) ≡ b
-    lack-is b e = sym (told (st .seen) seen-part) ∙ e
-
-    pub end-lacking : lack ≡ true → endTurn (rulesOf u) st fs ≡ stopping 8
-    end-lacking e = end-is true (eqb (atomCount st) 0) (isNil fs) _ (lack-is true e) refl refl refl
-
-    pub end-atomless : lack ≡ false → p .atoms ≡ 0 → endTurn (rulesOf u) st fs ≡ stopping 8
-    end-atomless e z = end-is false true (isNil fs) _ (lack-is false e) (eq-eqb (atomCount st) 0 (h .holding .listed .atoms ∙ z)) refl refl
-
-    pub end-valued : lack ≡ false → (p .atoms ≡ 0 → ⊥) → isNil fs ≡ false → endTurn (rulesOf u) st fs ≡ stopping 9
-    end-valued e n f = end-is false false false _ (lack-is false e) (none-listed n) f refl
-
-    pub end-untested : lack ≡ false → (p .atoms ≡ 0 → ⊥) → isNil fs ≡ true → u .totals ≡ false → endTurn (rulesOf u) st fs ≡ geometryEnd st
-    end-untested e n f g = end-is false false true false (lack-is false e) (none-listed n) f (ap (λ (x : Bool). x && not (agree (st .formula) (entriesOf (st .body .atoms)))) g)
-
-    module _ (same : Bool) (agreed : same ≡ agree (st .formula) (entriesOf (st .body .atoms))) (e : lack ≡ false) (n : p .atoms ≡ 0 → ⊥) (f : isNil fs ≡ true) (g : u .totals ≡ true) where
-      tested : (s : Bool) → same ≡ s → (u .totals && not (agree (st .formula) (entriesOf (st .body .atoms)))) ≡ not s
-      tested s q = ap (λ (x : Bool). x && not (agree (st .formula) (entriesOf (st .body .atoms)))) g ∙ ap not (sym agreed ∙ q)
-
-      pub end-differs : same ≡ false → endTurn (rulesOf u) st fs ≡ stopping 15
-      end-differs q = end-is false false true true (lack-is false e) (none-listed n) f (tested false q)
-
-      pub end-agrees : same ≡ true → endTurn (rulesOf u) st fs ≡ geometryEnd st
-      end-agrees q = end-is false false true false (lack-is false e) (none-listed n) f (tested true q)
-
-  -- what the totals' function promises, said of this state
-  pub totals-told : length t ≡ 2972 → (p .atoms ≡ 0 → ⊥) → u .last ≤ 103 → (same : Bool)
-      → ((listed : List Atom) → length (take 768 (drop 0 t)) ≡ 768 → 0 < p .atoms → p .atoms ≤ 256 → u .last ≤ 103 → length listed ≡ p .atoms → take 768 (drop 0 t) ≡ kindsRegion listed → all (atomOk (u .last)) listed ≡ true → all (entryFine (u .last)) (formulaAt (u .last) block (p .formula)) ≡ true
-      → same ≡ agree (formulaAt (u .last) block (p .formula)) (entriesOf listed)) → same ≡ agree (st .formula) (entriesOf (st .body .atoms))
-  totals-told long n most same f =
-      let w = h .holding in
-      let more : 0 < p .atoms = some-of (p .atoms) n in
-      f (st .body .atoms) (length-take-le 768 t (omega (arith, long))) more (c .atoms) most (w .listed .atoms) (ap (λ (s : List ℕ). take 768 (drop 0 s)) (w .scratch) ∙ atoms-seated st (sized p st c (w .listed)) .0) (w .kinds) (rw (sym (w .formula)) (w .formula-fine))
-      ∙ ap (λ es. agree es (entriesOf (st .body .atoms))) (sym (w .formula))

@@ -19,10 +19,10 @@ use Rattle.sorted.specs.Regions.{mark, sawCode, seenFrom, topOf}
 
 -- WHERE THE INTERVALS BEGIN AND END, by code
 abbrev pub lowAt : ℕ → ℕ
-lowAt c = 11070861189106119184 / 2 ^ (4 * (c - c / 16)) % 16
+lowAt c = 11070861189106119184 / 2 ^ (4 * (c - 2 * (c / 16))) % 16
 
 abbrev pub highAt : ℕ → ℕ
-highAt c = 11072550038966383130 / 2 ^ (4 * (c - c / 16)) % 16
+highAt c = 11072550038966383130 / 2 ^ (4 * (c - 2 * (c / 16))) % 16
 
 abbrev pub Told : ℕ → Type 0
 Told c = (byCode c known .code ≡ c) × (lowAt c ≡ byCode c known .low) × (highAt c ≡ byCode c known .high)
@@ -30,13 +30,13 @@ Told c = (byCode c known .code ≡ c) × (lowAt c ≡ byCode c known .low) × (h
 abbrev right : ℕ → Bool
 right c = eqb (byCode c known .code) c && (eqb (lowAt c) (byCode c known .low) && eqb (highAt c) (byCode c known .high))
 
-all-right : below right 17 ≡ true
+all-right : below right 18 ≡ true
 unfolding below byCode known label lookup
 all-right = refl
 
-pub known-told : (c : ℕ) → c < 17 → Told c
+pub known-told : (c : ℕ) → c < 18 → Told c
 known-told c h =
-    let p = and-parts (eqb (byCode c known .code) c) _ (at-below right 17 all-right c h) in
+    let p = and-parts (eqb (byCode c known .code) c) _ (at-below right 18 all-right c h) in
     let q = and-parts (eqb (lowAt c) (byCode c known .low)) _ (p .1) in
     (eqb-true _ _ (p .0), eqb-true _ _ (q .0), eqb-true _ _ (q .1))
 
@@ -49,10 +49,10 @@ seen-from (suc k) c (suc i) seen h =
     let q : suc c + i ≡ c + suc i = omega arith in
     seen-from k (suc c) i seen (omega arith) ∙ ap (λ (n : ℕ). mark (sawCode n seen)) q
 
-pub seen-at : (cells : List ℕ) (seen : List Label) (i : ℕ) → cells ≡ seenFrom 17 0 seen → i < 17 → getD cells i 0 ≡ mark (sawCode i seen)
+pub seen-at : (cells : List ℕ) (seen : List Label) (i : ℕ) → cells ≡ seenFrom 18 0 seen → i < 18 → getD cells i 0 ≡ mark (sawCode i seen)
 seen-at cells seen i e h =
     let q : 0 + i ≡ i = omega arith in
-    ap (λ (l : List ℕ). getD l i 0) e ∙ seen-from 17 0 i seen h ∙ ap (λ (n : ℕ). mark (sawCode n seen)) q
+    ap (λ (l : List ℕ). getD l i 0) e ∙ seen-from 18 0 i seen h ∙ ap (λ (n : ℕ). mark (sawCode n seen)) q
 
 mark-one : (b : Bool) → (mark b ≡ 0 → ⊥) → b ≡ true
 mark-one true h = refl
@@ -94,15 +94,15 @@ unfolding misplaced
 misplaced-is seen x =
     any-or (λ y. eqb (y .code) (x .code)) (λ y. ltb (x .high) (y .low)) seen ∙ ap (λ (t : Bool). sawCode (x .code) seen || t) (top-any (x .high) seen)
 
-pub misplaced-code : (seen : List Label) (c : ℕ) → c < 17 → misplaced seen (byCode c known) ≡ (sawCode c seen || ltb (byCode c known .high) (topOf seen))
+pub misplaced-code : (seen : List Label) (c : ℕ) → c < 18 → misplaced seen (byCode c known) ≡ (sawCode c seen || ltb (byCode c known .high) (topOf seen))
 misplaced-code seen c h = misplaced-is seen (byCode c known) ∙ ap (λ (n : ℕ). sawCode n seen || ltb (byCode c known .high) (topOf seen)) (known-told c h .0)
 
-pub seen-again : (cells : List ℕ) (seen : List Label) (c : ℕ) → c < 17 → cells ≡ seenFrom 17 0 seen → (getD cells c 0 ≡ 0 → ⊥) → true ≡ misplaced seen (byCode c known)
+pub seen-again : (cells : List ℕ) (seen : List Label) (c : ℕ) → c < 18 → cells ≡ seenFrom 18 0 seen → (getD cells c 0 ≡ 0 → ⊥) → true ≡ misplaced seen (byCode c known)
 seen-again cells seen c h e n =
     let s : sawCode c seen ≡ true = mark-one (sawCode c seen) (λ z. n (seen-at cells seen c e h ∙ z)) in
     sym (misplaced-code seen c h ∙ or-left (sawCode c seen) (ltb (byCode c known .high) (topOf seen)) s)
 
-pub order-told : (cells : List ℕ) (seen : List Label) (c top high : ℕ) → c < 17 → cells ≡ seenFrom 17 0 seen → top ≡ topOf seen → getD cells c 0 ≡ 0 → high ≡ byCode c known .high →
+pub order-told : (cells : List ℕ) (seen : List Label) (c top high : ℕ) → c < 18 → cells ≡ seenFrom 18 0 seen → top ≡ topOf seen → getD cells c 0 ≡ 0 → high ≡ byCode c known .high →
     ltb high top ≡ misplaced seen (byCode c known)
 order-told cells seen c top high h e t z k =
     let s : sawCode c seen ≡ false = mark-zero (sawCode c seen) (sym (seen-at cells seen c e h) ∙ z) in
@@ -132,17 +132,17 @@ noted-more c x seen e = rw (ne-eqb c 0 e, noted)
 
 -- what the cells and the top show after a label of the code c
 abbrev pub Noted : (cells : List ℕ) (top c : ℕ) → List Label → Type 0
-Noted cells top c seen = (cells ≡ seenFrom 17 0 (noted c (byCode c known) seen)) × (top ≡ topOf (noted c (byCode c known) seen))
+Noted cells top c seen = (cells ≡ seenFrom 18 0 (noted c (byCode c known) seen)) × (top ≡ topOf (noted c (byCode c known) seen))
 
-module _ (cells : List ℕ) (seen : List Label) (c top : ℕ) (e : cells ≡ seenFrom 17 0 seen) (t : top ≡ topOf seen) where
+module _ (cells : List ℕ) (seen : List Label) (c top : ℕ) (e : cells ≡ seenFrom 18 0 seen) (t : top ≡ topOf seen) where
   pub note-none : c ≡ 0 → Noted cells top c seen
-  note-none z = let q = sym (noted-zero c (byCode c known) seen z) in (e ∙ ap (seenFrom 17 0) q, t ∙ ap topOf q)
+  note-none z = let q = sym (noted-zero c (byCode c known) seen z) in (e ∙ ap (seenFrom 18 0) q, t ∙ ap topOf q)
 
-  module _ (h : c < 17) (n : c ≡ 0 → ⊥) where
-    note-cells : set cells c 1 ≡ seenFrom 17 0 (noted c (byCode c known) seen)
+  module _ (h : c < 18) (n : c ≡ 0 → ⊥) where
+    note-cells : set cells c 1 ≡ seenFrom 18 0 (noted c (byCode c known) seen)
     note-cells =
         let q : byCode c known .code ≡ 0 + c = known-told c h .0 ∙ omega arith in
-        ap (λ (l : List ℕ). set l c 1) e ∙ noted-from 17 0 c (byCode c known) seen q h ∙ ap (seenFrom 17 0) (sym (noted-more c (byCode c known) seen n))
+        ap (λ (l : List ℕ). set l c 1) e ∙ noted-from 18 0 c (byCode c known) seen q h ∙ ap (seenFrom 18 0) (sym (noted-more c (byCode c known) seen n))
 
     module _ (low : ℕ) (k : low ≡ byCode c known .low) where
       note-top : (m : ℕ) → m ≡ max low (topOf seen) → m ≡ topOf (noted c (byCode c known) seen)
@@ -156,12 +156,12 @@ module _ (cells : List ℕ) (seen : List Label) (c top : ℕ) (e : cells ≡ see
       note-lower l = (note-cells, note-top top (omega arith))
 
 -- A RECORD MISSING
-pub lacking-is : (cells : List ℕ) (seen : List Label) → cells ≡ seenFrom 17 0 seen →
+pub lacking-is : (cells : List ℕ) (seen : List Label) → cells ≡ seenFrom 18 0 seen →
     any (lacks seen) (2 ∷ 3 ∷ 4 ∷ 5 ∷ []) ≡ (eqb (getD cells 2 0) 0 || (eqb (getD cells 3 0) 0 || (eqb (getD cells 4 0) 0 || eqb (getD cells 5 0) 0)))
 unfolding any lacks
 lacking-is cells seen e = rw (cell 2 (omega arith), cell 3 (omega arith), cell 4 (omega arith), cell 5 (omega arith)) (last (sawCode 2 seen) (sawCode 3 seen) (sawCode 4 seen) (sawCode 5 seen))
   where
-    cell : (i : ℕ) → i < 17 → getD cells i 0 ≡ mark (sawCode i seen)
+    cell : (i : ℕ) → i < 18 → getD cells i 0 ≡ mark (sawCode i seen)
     cell i h = seen-at cells seen i e h
 
     last : (a b c d : Bool) → (not a || (not b || (not c || (not d || false)))) ≡ (eqb (mark a) 0 || (eqb (mark b) 0 || (eqb (mark c) 0 || eqb (mark d) 0)))
@@ -175,7 +175,7 @@ pub or-fourth : (a b c d : Bool) → a ≡ false → b ≡ false → c ≡ false
 or-fourth a b c d p q r = rw (p, q, r)
 
 -- SOME OF THE THREE LABELS
-module _ (cells : List ℕ) (seen : List Label) (e : cells ≡ seenFrom 17 0 seen) where
+module _ (cells : List ℕ) (seen : List Label) (e : cells ≡ seenFrom 18 0 seen) where
   partly-is : partly seen (14 ∷ 15 ∷ 16 ∷ []) ≡ (not (eqb (getD cells 15 0) (getD cells 14 0)) || not (eqb (getD cells 16 0) (getD cells 14 0)))
   unfolding partly any all lacks
   partly-is = rw (seen-at cells seen 14 e (omega arith), seen-at cells seen 15 e (omega arith), seen-at cells seen 16 e (omega arith)) (cases (sawCode 14 seen) (sawCode 15 seen) (sawCode 16 seen))
@@ -193,3 +193,15 @@ module _ (cells : List ℕ) (seen : List Label) (e : cells ≡ seenFrom 17 0 see
 
   pub partly-third : getD cells 15 0 ≡ getD cells 14 0 → not (eqb (getD cells 16 0) (getD cells 14 0)) ≡ partly seen (14 ∷ 15 ∷ 16 ∷ [])
   partly-third q = sym (partly-is ∙ ap (λ (t : Bool). not t || not (eqb (getD cells 16 0) (getD cells 14 0))) (eq-eqb (getD cells 15 0) (getD cells 14 0) q))
+
+-- STEREOMOLECULE WITHOUT ITS YES
+pub answered : (seen : List Label) (handed : Bool) → handed ≡ true → false ≡ not (lacks seen 17 || handed)
+answered seen handed e = sym (ap not (or-right (lacks seen 17) handed e))
+
+pub unanswered-told : (cells : List ℕ) (seen : List Label) (handed : Bool) → cells ≡ seenFrom 18 0 seen → handed ≡ false → not (eqb (getD cells 17 0) 0) ≡ not (lacks seen 17 || handed)
+unfolding lacks
+unanswered-told cells seen handed e f = rw (seen-at cells seen 17 e (omega arith), f) (by (sawCode 17 seen))
+  where
+    by : (a : Bool) → not (eqb (mark a) 0) ≡ not (not a || false)
+    by true = refl
+    by false = refl

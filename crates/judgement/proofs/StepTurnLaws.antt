@@ -10,7 +10,7 @@ use borrow.Author.Tests.{ne-eqb}
 use Rattle.format.specs.Bytes.{Bytes, fields, strip}
 use Rattle.format.specs.Labels.{Holds, label, known, lookup}
 use Rattle.format.specs.Formula.{formulaShape}
-use Rattle.format.specs.Reading.{Rules, Prose, prose, State, withText, extended, versionTurn, idTurn, formulaTurn, blankOr, endTurn, xyzLine, xyzValue, xyzFurther, valueTurn, furtherTurn}
+use Rattle.format.specs.Reading.{Rules, Prose, prose, State, withText, extended, versionTurn, idTurn, formulaTurn, blankOr, endTurn, xyzLine, xyzValue, xyzFurther, yesLine, valueTurn, furtherTurn}
 use Rattle.format.specs.Reading.{Go as going, Turn as Turned}
 use Rattle.lines.specs.Cuts.{Uncommented}
 use Rattle.labels.specs.ShownLines.{byCode}
@@ -31,7 +31,7 @@ use Rattle.judgement.proofs.TextTurnLaws.{strip-part, part-join, kept-b
 -- THE LISTS' CODES
 -- what a line of a list at its place promises, by the code of the record that runs
 abbrev pub ListPromise : (at k : ℕ) → Progress → List ℕ → Turn → List ℕ → List Bytes → Type 0
-ListPromise at k p t r s fs = (length s ≡ length t) × (length t ≡ 2972 → Gathers (p .running) k at fs p t s r)
+ListPromise at k p t r s fs = (length s ≡ length t) × (length t ≡ 2973 → Gathers (p .running) k at fs p t s r)
 
 -- the codes 3 and 4 as the code tests them
 three-or-four : (n : ℕ) → 3 ≤ n → n < 5 → (n ≡ 3) ⊎ (n ≡ 4)
@@ -80,7 +80,7 @@ further-as-list u (suc (suc (suc (suc (suc (suc (suc (suc (suc (suc (suc (suc n)
 -- THE GEOMETRY'S CODES
 abbrev pub GeometryPromise : (at : ℕ) → Progress → List ℕ → Turn → List ℕ → List Bytes → Type 0
 GeometryPromise at p t r s fs =
-    (length s ≡ 2972) × KeptTurn p r × ((k : ℕ) (block : Bytes) (st : State) → Shows k block at p t st → ShowsTurn k block at r s (xyzValue (recordOf (p .running)) st fs))
+    (length s ≡ 2973) × KeptTurn p r × ((k : ℕ) (block : Bytes) (st : State) → Shows k block at p t st → ShowsTurn k block at r s (xyzValue (recordOf (p .running)) st fs))
 
 value-at-14 : (u : Rules) (from : ℕ) (v : Bytes) (st : State) → valueTurn u (byCode 14 known .holds) st from v ≡ xyzValue (recordOf 14) st (fields (strip v))
 unfolding byCode known label valueTurn
@@ -103,11 +103,17 @@ value-as-geometry u n from v st a z = by (n - 14) (omega arith) (omega arith)
     by (suc (suc zero)) e h = ap (λ (m : ℕ). valueTurn u (byCode m known .holds) st from v) e ∙ value-at-16 u from v st ∙ ap (λ (m : ℕ). xyzValue (recordOf m) st (fields (strip v))) (sym e)
     by (suc (suc (suc i))) e h = absurd (omega arith)
 
+-- STEREOMOLECULE: what its line promises, on the label line and behind it
+abbrev pub YesPromise : (at : ℕ) → Progress → Turn → List Bytes → Type 0
+YesPromise at p r fs =
+    ((size : ℕ) → Bounded size p → BoundedTurn size r) × SameRunning p r
+    × ((k : ℕ) (whole : Bytes) (s : List ℕ) (st : State) → Shows k whole at p s st → ShowsTurn k whole at r s (yesLine st fs))
+
 -- A VALUE ON ITS LABEL LINE
-module _ (block : Bytes) (at from end : ℕ) (u : Given) (p : Progress) (t : List ℕ) (long : length t ≡ 2972) (b : Bounded (length block) p) (h : from ≤ end) (l : end ≤ length block) where
+module _ (block : Bytes) (at from end : ℕ) (u : Given) (p : Progress) (t : List ℕ) (long : length t ≡ 2973) (b : Bounded (length block) p) (h : from ≤ end) (l : end ≤ length block) where
   abbrev pub ValuePromise : Turn → List ℕ → Type 0
   ValuePromise r s =
-      (length s ≡ 2972) × BoundedTurn (length block) r × FlowingTurn end r
+      (length s ≡ 2973) × BoundedTurn (length block) r × FlowingTurn end r
       × ((st : State) → Shows (u .last) block at p t st → ShowsTurn (u .last) block at r s (valueTurn (rulesOf u) (byCode (p .running) known .holds) st from (partOf block from end)))
 
   value-at : (c : ℕ) → p .running ≡ c → (st : State) → valueTurn (rulesOf u) (byCode (p .running) known .holds) st from (partOf block from end) ≡ valueTurn (rulesOf u) (byCode c known .holds) st from (partOf block from end)
@@ -186,6 +192,15 @@ module _ (block : Bytes) (at from end : ℕ) (u : Given) (p : Progress) (t : Lis
       λ st s. turn-shown (u .last) block at r t _ _ (value-at 13 e st ∙ stripped (λ v. endTurn (rulesOf u) st (fields v))) (q .1 st s),
     )
 
+    pub value-yes : p .running ≡ 17 → YesPromise at p r (fields (partOf block from (from + m))) → ValuePromise r t
+    unfolding byCode known label valueTurn
+    value-yes e q = (
+      long,
+      q .0 (length block) b,
+      flowing-silent end p r (q .1) (ap silent e),
+      λ st s. turn-shown (u .last) block at r t _ _ (value-at 17 e st ∙ stripped (λ v. yesLine st (fields v))) (q .2 (u .last) block t st s),
+    )
+
     pub value-geometry : (s : List ℕ) → (14 ≤ p .running) × (p .running ≤ 16) → GeometryPromise at p t r s (fields (partOf block from (from + m))) → ValuePromise r s
     value-geometry s code q = (
       q .0,
@@ -208,10 +223,10 @@ module _ (block : Bytes) (at from end : ℕ) (u : Given) (p : Progress) (t : Lis
         )
 
 -- A FURTHER LINE OF THE RECORD
-module _ (block : Bytes) (at end : ℕ) (u : Given) (p : Progress) (t : List ℕ) (long : length t ≡ 2972) (b : Bounded (length block) p) (f : Flowing at p) (h : at ≤ end) (l : end ≤ length block) where
+module _ (block : Bytes) (at end : ℕ) (u : Given) (p : Progress) (t : List ℕ) (long : length t ≡ 2973) (b : Bounded (length block) p) (f : Flowing at p) (h : at ≤ end) (l : end ≤ length block) where
   abbrev pub FurtherPromise : Turn → List ℕ → Type 0
   FurtherPromise r s =
-      (length s ≡ 2972) × BoundedTurn (length block) r × FlowingTurn end r
+      (length s ≡ 2973) × BoundedTurn (length block) r × FlowingTurn end r
       × ((st : State) → Shows (u .last) block at p t st → ShowsTurn (u .last) block at r s (furtherTurn (rulesOf u) (st .running) st (partOf block at end)))
 
   further-at : (c : ℕ) → p .running ≡ c → (st : State) → Shows (u .last) block at p t st → furtherTurn (rulesOf u) (st .running) st (partOf block at end) ≡ furtherTurn (rulesOf u) (byCode c known .holds) st (partOf block at end)
@@ -293,6 +308,15 @@ module _ (block : Bytes) (at end : ℕ) (u : Given) (p : Progress) (t : List ℕ
       flowing-silent end p r (kept-running p r (q .1)) (ap silent e),
       λ st v. turn-shown (u .last) block at r s _ _
           (further-at 16 e st v ∙ ap (λ (x : Bytes). xyzLine st (fields x)) (strip-part block at end m h l c) ∙ ap (λ (n : ℕ). xyzValue (recordOf n) st (fields (partOf block at (at + m)))) (sym e)) (q .2 (u .last) block st v),
+    )
+
+    pub further-yes : p .running ≡ 17 → YesPromise at p r (fields (partOf block at (at + m))) → FurtherPromise r t
+    unfolding byCode known label furtherTurn
+    further-yes e q = (
+      long,
+      q .0 (length block) b,
+      flowing-silent end p r (q .1) (ap silent e),
+      λ st s. turn-shown (u .last) block at r t _ _ (further-at 17 e st s ∙ ap (λ (x : Bytes). yesLine st (fields x)) (strip-part block at end m h l c)) (q .2 (u .last) block t st s),
     )
 
     pub further-list : (s : List ℕ) → (6 ≤ p .running) × (p .running ≤ 11) → 1 ≤ u .last

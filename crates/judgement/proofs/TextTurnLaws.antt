@@ -23,7 +23,7 @@ use Rattle.gather.specs.declared.progress.Progress.{Progress}
 use Rattle.gather.specs.declared.progress.Turn.{Turn}
 use Rattle.gather.specs.declared.progress.Turn.the-variants.{Go, Stop}
 use Rattle.judgement.specs.Lines.{KeptTurn, SameRunning, withTexts, textPut}
-use Rattle.judgement.proofs.LineTurnLaws.{listed-as, counted-as, text-title, text-origin, text-owner}
+use Rattle.judgement.proofs.LineTurnLaws.{listed-still, counted-as, text-title, text-origin, text-owner}
 
 -- PARTS OF A BLOCK
 module _ (block : Bytes) where
@@ -103,7 +103,7 @@ texts-shown k block at p t st x y z texts h e = record {
     formula = h .holding .formula;
     formula-fine = h .holding .formula-fine;
     kinds = h .holding .kinds;
-    listed = listed-as p (withTexts x y z p) (st .body .id) st (h .holding .listed) refl (λ l. elim l [ Bonds ↦ refl | Charges ↦ refl | Radicals ↦ refl | Centres ↦ refl | Pairs ↦ refl ]) (h .holding .listed .id);
+    listed = listed-still p (withTexts x y z p) (st .body) (h .holding .listed) refl (λ l. elim l [ Bonds ↦ refl | Charges ↦ refl | Radicals ↦ refl | Centres ↦ refl | Pairs ↦ refl ]) refl refl;
     geometry = h .holding .geometry;
   };
 }
@@ -158,51 +158,3 @@ module _ (block : Bytes) (from end : ℕ) (p : Progress) (t : List ℕ) (b : Bou
         flowing-text (p .title) (p .origin) (partFrom from end) (λ f. absurd (omega arith)) (λ f. absurd (omega arith)) (λ f. refl),
         λ k at st s. texts-shown k block at p t st (p .title) (p .origin) (partFrom from end) _ s (ap (λ (ts : List Prose). set ts 2 (proseAt block (partFrom from end))) (s .holding .texts)),
       )
-
--- THE RECORDS' CODES
--- what is no other record's code is a list's
-pub list-code : (n : ℕ) → n < 17 → (n ≡ 0 → ⊥) → (n ≡ 1 → ⊥) → (n ≡ 3 → ⊥) → (n ≡ 4 → ⊥) → (n ≡ 2 → ⊥) → (n ≡ 5 → ⊥) → (n ≡ 12 → ⊥) → (n ≡ 13 → ⊥) → (14 ≤ n → ⊥) → (6 ≤ n) × (n ≤ 11)
-list-code zero h a b d e c f y z o = absurd (a refl)
-list-code (suc zero) h a b d e c f y z o = absurd (b refl)
-list-code (suc (suc zero)) h a b d e c f y z o = absurd (c refl)
-list-code (suc (suc (suc zero))) h a b d e c f y z o = absurd (d refl)
-list-code (suc (suc (suc (suc zero)))) h a b d e c f y z o = absurd (e refl)
-list-code (suc (suc (suc (suc (suc zero))))) h a b d e c f y z o = absurd (f refl)
-list-code (suc (suc (suc (suc (suc (suc zero)))))) h a b d e c f y z o = (omega arith, omega arith)
-list-code (suc (suc (suc (suc (suc (suc (suc zero))))))) h a b d e c f y z o = (omega arith, omega arith)
-list-code (suc (suc (suc (suc (suc (suc (suc (suc zero)))))))) h a b d e c f y z o = (omega arith, omega arith)
-list-code (suc (suc (suc (suc (suc (suc (suc (suc (suc zero))))))))) h a b d e c f y z o = (omega arith, omega arith)
-list-code (suc (suc (suc (suc (suc (suc (suc (suc (suc (suc zero)))))))))) h a b d e c f y z o = (omega arith, omega arith)
-list-code (suc (suc (suc (suc (suc (suc (suc (suc (suc (suc (suc zero))))))))))) h a b d e c f y z o = (omega arith, omega arith)
-list-code (suc (suc (suc (suc (suc (suc (suc (suc (suc (suc (suc (suc zero)))))))))))) h a b d e c f y z o = absurd (y refl)
-list-code (suc (suc (suc (suc (suc (suc (suc (suc (suc (suc (suc (suc (suc zero))))))))))))) h a b d e c f y z o = absurd (z refl)
-list-code (suc (suc (suc (suc (suc (suc (suc (suc (suc (suc (suc (suc (suc (suc n)))))))))))))) h a b d e c f y z o = absurd (o (omega arith))
-
--- the geometry's codes, as the code tests them; and where they are left out, none of them is there
-pub geometry-code : (n : ℕ) → 12 ≤ n → n < 17 → (n ≡ 12 → ⊥) → (n ≡ 13 → ⊥) → (14 ≤ n) × (n ≤ 16)
-geometry-code n h k a b = (omega (arith, h, a, b), omega (arith, k))
-
-pub no-geometry : (n : ℕ) → n < 17 → (n < 12) ⊎ (17 ≤ n) → 14 ≤ n → ⊥
-no-geometry n h (inl k) g = omega arith
-no-geometry n h (inr k) g = omega arith
-
-pub no-rows : (n : ℕ) → n < 17 → (n < 14) ⊎ (16 ≤ n) → (n ≡ 16 → ⊥) → 14 ≤ n → ⊥
-no-rows n h (inl k) o g = omega arith
-no-rows n h (inr k) o g = o (omega arith)
-
--- the records with a value on their label line, as the code tests them
-pub single-code : (n : ℕ) → ((n ≡ 2) ⊎ ((n ≡ 5) ⊎ (n ≡ 12))) ⊎ ((14 ≤ n) × (n < 16)) → (n ≡ 2) ⊎ ((n ≡ 5) ⊎ ((n ≡ 12) ⊎ ((n ≡ 14) ⊎ (n ≡ 15))))
-single-code n (inl (inl e)) = inl e
-single-code n (inl (inr (inl e))) = inr (inl e)
-single-code n (inl (inr (inr e))) = inr (inr (inl e))
-single-code n (inr h) = by (n - 14) (omega (arith, h .0)) (omega (arith, h .0, h .1))
-  where
-    by : (i : ℕ) → n ≡ 14 + i → i < 2 → (n ≡ 2) ⊎ ((n ≡ 5) ⊎ ((n ≡ 12) ⊎ ((n ≡ 14) ⊎ (n ≡ 15))))
-    by zero e k = inr (inr (inr (inl e)))
-    by (suc zero) e k = inr (inr (inr (inr e)))
-    by (suc (suc i)) e k = absurd (omega arith)
-
--- what is outside 3 and 4 is neither
-pub outside : (n : ℕ) → (n < 3) ⊎ (5 ≤ n) → (n ≡ 3 → ⊥) × (n ≡ 4 → ⊥)
-outside n (inl h) = (λ e. omega arith, λ e. omega arith)
-outside n (inr h) = (λ e. omega arith, λ e. omega arith)

@@ -1,8 +1,8 @@
--- The values that stand on their label line, from its first field and from whether anything follows it: document 01, "Rows", JCAMP-CS and BLOCK_ID; and a line
--- without fields is a blank one. Assumes nothing.
+-- Values of one field, from a line's first field and from whether anything follows it: document 01, "Rows", JCAMP-CS and BLOCK_ID; document 02, L4, STEREOMOLECULE; and
+-- a line without fields is a blank one. Assumes nothing.
 use Prim.Native.Nat.{ℕ, suc, _+_, _-_, _≤_}
 use mathlib.Core.Path.{_≡_, refl, sym, ap, _∙_}
-use mathlib.Core.Bool.{Bool, true, false, _&&_}
+use mathlib.Core.Bool.{Bool, true, false, _&&_, and-true}
 use mathlib.Core.Option.{Option, some}
 use mathlib.Core.List.{List, [], _∷_}
 use native.Mathlib.Omega.{arith}
@@ -15,7 +15,7 @@ use Rattle.lists.proofs.Bools.{and-right-false, and-left-false}
 use Rattle.lists.proofs.ListLaws.{all-in, all-out}
 use Rattle.format.specs.Bytes.{Bytes, bytes, same, gap, fields}
 use Rattle.format.specs.Rows.{field, number}
-use Rattle.format.specs.Reading.{State, Go, Stop, withBody, withId, idValue, idTurn}
+use Rattle.format.specs.Reading.{State, Go, Stop, withBody, withId, idValue, idTurn, onlyField}
 use Rattle.format.proofs.FieldLaws.{fields-gap, fields-first}
 use Rattle.fields.specs.NextFields.{NextField, fieldIn}
 use Rattle.numbers.specs.ShownNumbers.{Shows, shownNumber}
@@ -38,18 +38,18 @@ pub rest-blank : (line : Bytes) (w : Field) → NextField line 0 w → all gap (
 rest-blank line w n =
     ap (all gap) (take-all (length line - w .to) (drop (w .to) line) (simp length-drop (omega arith))) ∙ sym (fields-blank (drop (w .to) line)) ∙ ap isNil (n .rest)
 
--- JCAMP-CS
-version-length : (w : Bytes) → (length w ≡ 3 → ⊥) → same w (bytes "3.7") ≡ false
-unfolding sameBy bytes
-version-length [] h = refl
-version-length (a ∷ []) h = and-right-false (eqb a 51) false refl
-version-length (a ∷ b ∷ []) h = and-right-false (eqb a 51) (eqb b 46 && false) (and-right-false (eqb b 46) false refl)
-version-length (a ∷ b ∷ c ∷ []) h = absurd (h refl)
-version-length (a ∷ b ∷ c ∷ d ∷ w) h = and-right-false (eqb a 51) (eqb b 46 && (eqb c 55 && false)) (and-right-false (eqb b 46) (eqb c 55 && false) (and-right-false (eqb c 55) false refl))
+-- A WORD OF THREE BYTES
+word-length : (x y z : ℕ) (w : Bytes) → (length w ≡ 3 → ⊥) → same w (x ∷ y ∷ z ∷ []) ≡ false
+unfolding sameBy
+word-length x y z [] h = refl
+word-length x y z (a ∷ []) h = and-right-false (eqb a x) false refl
+word-length x y z (a ∷ b ∷ []) h = and-right-false (eqb a x) (eqb b y && false) (and-right-false (eqb b y) false refl)
+word-length x y z (a ∷ b ∷ c ∷ []) h = absurd (h refl)
+word-length x y z (a ∷ b ∷ c ∷ d ∷ w) h = and-right-false (eqb a x) (eqb b y && (eqb c z && false)) (and-right-false (eqb b y) (eqb c z && false) (and-right-false (eqb c z) false refl))
 
-version-bytes : (a b c : ℕ) → same (a ∷ b ∷ c ∷ []) (bytes "3.7") ≡ (eqb a 51 && (eqb b 46 && (eqb c 55 && true)))
-unfolding sameBy bytes
-version-bytes a b c = refl
+word-bytes : (x y z a b c : ℕ) → same (a ∷ b ∷ c ∷ []) (x ∷ y ∷ z ∷ []) ≡ (eqb a x && (eqb b y && (eqb c z && true)))
+unfolding sameBy
+word-bytes x y z a b c = refl
 
 three : (s : Bytes) (i n : ℕ) → n ≡ 3 → i + 3 ≤ length s → take n (drop i s) ≡ getD s i 0 ∷ getD s (i + 1) 0 ∷ getD s (i + 2) 0 ∷ []
 three s i n e h =
@@ -61,42 +61,60 @@ three s i n e h =
     step : (a b : ℕ) → suc a ≡ b → getD s a 0 ∷ drop (suc a) s ≡ getD s a 0 ∷ drop b s
     step a b e = ap (λ (k : ℕ). getD s a 0 ∷ drop k s) e
 
-abbrev pub isVersion : List Bytes → Bool
-isVersion fs = same (field 0 fs) (bytes "3.7") && isNil (drop 1 fs)
+abbrev pub isOnly : (x y z : ℕ) → List Bytes → Bool
+isOnly x y z fs = same (field 0 fs) (x ∷ y ∷ z ∷ []) && isNil (drop 1 fs)
 
-module _ (line : Bytes) (w : Field) (n : NextField line 0 w) where
+module _ (x y z : ℕ) (line : Bytes) (w : Field) (n : NextField line 0 w) where
   field-length : w .to ≤ length line → length (fieldIn line w) ≡ w .to - w .from
   field-length h = let k : w .to - w .from ≤ length (drop (w .from) line) = simp length-drop (omega (arith, n .order)) in length-take-le (w .to - w .from) (drop (w .from) line) k
 
   end-within : w .to ≤ length line
   end-within = n .high (omega arith)
 
-  pub version-short : (w .to - w .from ≡ 3 → ⊥) → false ≡ isVersion (fields line)
-  version-short h =
-      sym (and-left-false (same (field 0 (fields line)) (bytes "3.7")) (isNil (drop 1 (fields line)))
-      (ap (λ (v : Bytes). same v (bytes "3.7")) (sym (n .is)) ∙ version-length (fieldIn line w) (λ q. h (sym (field-length end-within) ∙ q))))
+  pub only-short : (w .to - w .from ≡ 3 → ⊥) → false ≡ isOnly x y z (fields line)
+  only-short h =
+      sym (and-left-false (same (field 0 (fields line)) (x ∷ y ∷ z ∷ [])) (isNil (drop 1 (fields line)))
+      (ap (λ (v : Bytes). same v (x ∷ y ∷ z ∷ [])) (sym (n .is)) ∙ word-length x y z (fieldIn line w) (λ q. h (sym (field-length end-within) ∙ q))))
 
   module _ (h : w .to - w .from ≡ 3) where
-    version-same : same (field 0 (fields line)) (bytes "3.7") ≡ (eqb (getD line (w .from) 0) 51 && (eqb (getD line (w .from + 1) 0) 46 && (eqb (getD line (w .from + 2) 0) 55 && true)))
-    version-same =
-        ap (λ (v : Bytes). same v (bytes "3.7")) (sym (n .is) ∙ three line (w .from) (w .to - w .from) h (omega (arith, end-within)))
-        ∙ version-bytes (getD line (w .from) 0) (getD line (w .from + 1) 0) (getD line (w .from + 2) 0)
+    only-same : same (field 0 (fields line)) (x ∷ y ∷ z ∷ []) ≡ (eqb (getD line (w .from) 0) x && (eqb (getD line (w .from + 1) 0) y && (eqb (getD line (w .from + 2) 0) z && true)))
+    only-same =
+        ap (λ (v : Bytes). same v (x ∷ y ∷ z ∷ [])) (sym (n .is) ∙ three line (w .from) (w .to - w .from) h (omega (arith, end-within)))
+        ∙ word-bytes x y z (getD line (w .from) 0) (getD line (w .from + 1) 0) (getD line (w .from + 2) 0)
 
-    version-told : (t : Bool) → (eqb (getD line (w .from) 0) 51 && (eqb (getD line (w .from + 1) 0) 46 && (eqb (getD line (w .from + 2) 0) 55 && true))) ≡ t → isVersion (fields line) ≡ (t && isNil (drop 1 (fields line)))
-    version-told t e = ap (λ (u : Bool). u && isNil (drop 1 (fields line))) (version-same ∙ e)
+    only-told : (t : Bool) → (eqb (getD line (w .from) 0) x && (eqb (getD line (w .from + 1) 0) y && (eqb (getD line (w .from + 2) 0) z && true))) ≡ t → isOnly x y z (fields line) ≡ (t && isNil (drop 1 (fields line)))
+    only-told t e = ap (λ (u : Bool). u && isNil (drop 1 (fields line))) (only-same ∙ e)
 
-    pub version-first : (getD line (w .from) 0 ≡ 51 → ⊥) → false ≡ isVersion (fields line)
-    version-first a = sym (version-told false (rw (ne-eqb (getD line (w .from) 0) 51 a)))
+    pub only-first : (getD line (w .from) 0 ≡ x → ⊥) → false ≡ isOnly x y z (fields line)
+    only-first a = sym (only-told false (rw (ne-eqb (getD line (w .from) 0) x a)))
 
-    pub version-second : getD line (w .from) 0 ≡ 51 → (getD line (w .from + 1) 0 ≡ 46 → ⊥) → false ≡ isVersion (fields line)
-    version-second a b = sym (version-told false (rw (eq-eqb (getD line (w .from) 0) 51 a, ne-eqb (getD line (w .from + 1) 0) 46 b)))
+    pub only-second : getD line (w .from) 0 ≡ x → (getD line (w .from + 1) 0 ≡ y → ⊥) → false ≡ isOnly x y z (fields line)
+    only-second a b = sym (only-told false (rw (eq-eqb (getD line (w .from) 0) x a, ne-eqb (getD line (w .from + 1) 0) y b)))
 
-    pub version-third : getD line (w .from) 0 ≡ 51 → getD line (w .from + 1) 0 ≡ 46 → (getD line (w .from + 2) 0 ≡ 55 → ⊥) → false ≡ isVersion (fields line)
-    version-third a b c = sym (version-told false (rw (eq-eqb (getD line (w .from) 0) 51 a, eq-eqb (getD line (w .from + 1) 0) 46 b, ne-eqb (getD line (w .from + 2) 0) 55 c)))
+    pub only-third : getD line (w .from) 0 ≡ x → getD line (w .from + 1) 0 ≡ y → (getD line (w .from + 2) 0 ≡ z → ⊥) → false ≡ isOnly x y z (fields line)
+    only-third a b c = sym (only-told false (rw (eq-eqb (getD line (w .from) 0) x a, eq-eqb (getD line (w .from + 1) 0) y b, ne-eqb (getD line (w .from + 2) 0) z c)))
 
-    pub version-alone : (r : Bool) → getD line (w .from) 0 ≡ 51 → getD line (w .from + 1) 0 ≡ 46 → getD line (w .from + 2) 0 ≡ 55 → r ≡ all gap (take (length line - w .to) (drop (w .to) line)) → r ≡ isVersion (fields line)
-    version-alone r a b c e =
-        e ∙ rest-blank line w n ∙ sym (version-told true (rw (eq-eqb (getD line (w .from) 0) 51 a, eq-eqb (getD line (w .from + 1) 0) 46 b, eq-eqb (getD line (w .from + 2) 0) 55 c)))
+    pub only-alone : (r : Bool) → getD line (w .from) 0 ≡ x → getD line (w .from + 1) 0 ≡ y → getD line (w .from + 2) 0 ≡ z → r ≡ all gap (take (length line - w .to) (drop (w .to) line)) → r ≡ isOnly x y z (fields line)
+    only-alone r a b c e =
+        e ∙ rest-blank line w n ∙ sym (only-told true (rw (eq-eqb (getD line (w .from) 0) x a, eq-eqb (getD line (w .from + 1) 0) y b, eq-eqb (getD line (w .from + 2) 0) z c)))
+
+-- JCAMP-CS
+abbrev pub isVersion : List Bytes → Bool
+isVersion fs = same (field 0 fs) (bytes "3.7") && isNil (drop 1 fs)
+
+pub version-only : (fs : List Bytes) → isOnly 51 46 55 fs ≡ isVersion fs
+unfolding bytes
+version-only fs = refl
+
+-- STEREOMOLECULE
+abbrev pub isYes : List Bytes → Bool
+isYes fs = same (onlyField fs) (bytes "YES")
+
+pub yes-only : (fs : List Bytes) → isOnly 89 69 83 fs ≡ isYes fs
+unfolding bytes sameBy
+yes-only [] = refl
+yes-only (f ∷ []) = and-true (same f (89 ∷ 69 ∷ 83 ∷ []))
+yes-only (f ∷ g ∷ fs) = and-right-false (same f (89 ∷ 69 ∷ 83 ∷ [])) false refl
 
 -- BLOCK_ID
 module _ (line : Bytes) (w : Field) (n : NextField line 0 w) (r : Numeral) (s : Shows 1000000 (number (fieldIn line w)) r) where

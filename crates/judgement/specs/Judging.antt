@@ -1,5 +1,6 @@
 -- What a block's judgement says: the reading of its lines as the definitions read them. Document 01, "Refusal numbers". Assumes nothing.
 use mathlib.Core.Path.{_≡_}
+use mathlib.Core.Bool.{false}
 use mathlib.Core.List.{List, []}
 use Prim.Native.Nat.{ℕ}
 use lib.ListN.{length}
@@ -29,7 +30,7 @@ ShowsJudged u block t store (J.Refused n place) = readLines (rulesOf u) start (c
 
 -- what a reading lends: a scratch of the length, and as many elements known as may be
 pub record ReadingLent (u : Given) (t : List ℕ) : Type 0 where
-  pub long : length t ≡ 2972
+  pub long : length t ≡ 2973
   pub ruled : Ruled u
 
 -- What a judgement promises, by the scratch and the store before and after it. Of what no reading lends: number 0 at place 0, and both as they were. Of a scratch of
@@ -38,7 +39,7 @@ pub record Judges (u : Given) (block : Bytes) (before after : List ℕ) (store�
   pub long : length after ≡ length before
   pub stores : length store ≡ length store₀
   pub unlent : (ReadingLent u before → ⊥) → (r ≡ J.Refused 0 0) × (after ≡ before) × (store ≡ store₀)
-  pub shows : Ruled u → before ≡ filled 0 2972 [] → ShowsJudged u block after store r
+  pub shows : Ruled u → before ≡ filled 0 2973 [] → ShowsJudged u block after store r
 
 -- what is known before the first line
 abbrev pub unreadYet : Progress
@@ -56,4 +57,5 @@ unreadYet = record {
   centres = 0;
   pairs = 0;
   id = 0;
+  handed = false;
 }

@@ -2,13 +2,14 @@
 -- and "Rows". Assumes nothing.
 use Prim.Native.Nat.{ℕ, _≤_}
 use mathlib.Core.Path.{_≡_}
-use mathlib.Core.Bool.{Bool, true, false}
+use mathlib.Core.Bool.{Bool, true, false, _&&_, not}
 use mathlib.Core.List.{[], _∷_}
 use lib.Dec.{eqb, ltb}
 use Rattle.lists.specs.Lists.{all}
 use Rattle.format.specs.Bytes.{Bytes}
 use Rattle.format.specs.Labels.{Label, misplaced}
 use Rattle.format.specs.Coordinates.{exceeds}
+use Rattle.format.specs.Structure.{entriesOf, agree}
 use Rattle.format.specs.Reading.{Rules, State, Turn, Go, if_stop_else_, over, opened, partly, valueTurn}
 use Rattle.gather.specs.Progress.{altered}
 use Rattle.gather.specs.declared.progress.Part.{Part}
@@ -52,6 +53,10 @@ labelTurn u st from x v = if misplaced (st .seen) x stop 6 else if over (st .run
 -- the last tests of END: 41 "one or two of the three labels present without the rest", 42 "a value above MAX_XYZ"
 abbrev pub geometryEnd : State → Turn
 geometryEnd st = if partly (st .seen) (14 ∷ 15 ∷ 16 ∷ []) stop 41 else if exceeds (st .geometry) stop 42 else Go st
+
+-- and 15 "formula and atoms differ" before them
+abbrev pub totalsEnd : Rules → State → Turn
+totalsEnd u st = if u .totals && not (agree (st .formula) (entriesOf (st .body .atoms))) stop 15 else geometryEnd st
 
 -- each label seen has an interval that begins above 0, as every known one has
 abbrev pub begun : State → Bool

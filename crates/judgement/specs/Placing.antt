@@ -31,7 +31,7 @@ pub record Placed (u : Rules) (k : ℕ) (block : Bytes) (at place : ℕ) (p : Pr
   pub goes : readLines u st (cut (drop at block)) ≡ readLines u state (cut (drop place block))
 
 pub record RowsPlaced (block : Bytes) (at top atoms : ℕ) (before after : List ℕ) (store₀ store : List ℤ) (r : ℕ) : Type 0 where
-  pub long : length after ≡ 2972
+  pub long : length after ≡ 2973
   pub stores : length store ≡ length store₀
   pub low : at ≤ r
   pub high : at ≤ length block → r ≤ length block

@@ -2,8 +2,9 @@
 mod line; // line.rt: one line of a block
 pub mod rules; // rules.rt: what a reading goes by
 mod seen; // seen.rt: the labels seen so far and their order
-mod values; // values.rt: the values that stand on their label line
+mod values; // values.rt: values of one field
 mod xyz; // xyz.rt: the records of the block's geometry
+mod yes; // yes.rt: STEREOMOLECULE
 
 ghost use mathlib.Core.Path.{_≡_};
 ghost use mathlib.Core.List.{[]};
@@ -47,13 +48,14 @@ fn unread() -> Progress
         centres: 0,
         pairs: 0,
         id: 0,
+        handed: false,
     }
 }
 
 // The lines in turn. "The earliest line that breaks a rule decides"; 3 "a byte not allowed"; 4 "or the block is empty"; 16 "no END line", its place the block's length.
 fn judge_lines(block: &[u8], u: Rules, scratch: &mut [u32], store: &mut [i32]) -> Judged
-    requires { ⌜ (length (now scratch) ≡ 2972) × Ruled u ⌝ }
-    ensures { λ r. ⌜ (length (now (scratch .exit)) ≡ 2972) × (length (now (store .exit)) ≡ length (now (store .entry))) × (now (scratch .entry) ≡ filled 0 2972 [] → ShowsJudged u (now (block .entry)) (now (scratch .exit)) (now (store .exit)) r) ⌝ }
+    requires { ⌜ (length (now scratch) ≡ 2973) × Ruled u ⌝ }
+    ensures { λ r. ⌜ (length (now (scratch .exit)) ≡ 2973) × (length (now (store .exit)) ≡ length (now (store .entry))) × (now (scratch .entry) ≡ filled 0 2973 [] → ShowsJudged u (now (block .entry)) (now (scratch .exit)) (now (store .exit)) r) ⌝ }
 {
     let mut p = unread();
     let mut at = 0;

@@ -16,16 +16,19 @@ ghost use Rattle.labels.specs.ShownLines.{byCode};
 ghost use Rattle.gather.specs.Progress.{partOf, Bounded, BoundedTurn, Flowing, FlowingTurn};
 ghost use Rattle.gather.specs.Shows.{Shows, ShowsTurn};
 ghost use Rattle.gather.specs.declared.progress.Turn.the-variants.{Go};
-ghost use Rattle.judgement.specs.Lines.{rulesOf, Ruled, KeptTurn, SameRunning, textPut, labelTurn, begun};
+ghost use Rattle.judgement.specs.Lines.{rulesOf, Ruled, KeptTurn, SameRunning, textPut, labelTurn, totalsEnd, begun};
 use crate::rules::Rules;
 use crate::seen::lacking;
 use crate::seen::note;
 use crate::seen::out_of_order;
+use crate::seen::unanswered;
 use crate::values::BlockId;
 use crate::values::block_id;
 use crate::values::is_version;
 use crate::xyz::geometry_end;
 use crate::xyz::geometry_turn;
+use crate::yes::handed_twice;
+use crate::yes::yes_turn;
 use gather::list_turn;
 use gather::progress::Part;
 use gather::progress::Progress;
@@ -38,30 +41,12 @@ use molform::formula_verdict;
 use sorted::scratch::Scratch;
 use totals::agrees;
 
-// The END line, its value from `from` to `to` without its comment: 8 a record missing, 9 a value, 15 formula and atoms differ; then those of the
-// geometry.
-fn end_turn(
-    block: &[u8],
-    at: usize,
-    from: usize,
-    to: usize,
-    u: Rules,
-    p: Progress,
-    scratch: &[u32],
-) -> Turn
-    requires { ⌜ (length (now scratch) ≡ 2972) × Bounded (length (now block)) p × (from ≤ to) × (to ≤ length (now block)) × Ruled u ⌝ }
+// The later tests of END: 15 "formula and atoms differ", then those of the geometry.
+fn totals_end(block: &[u8], at: usize, u: Rules, p: Progress, scratch: &[u32]) -> Turn
+    requires { ⌜ (length (now scratch) ≡ 2973) × Bounded (length (now block)) p × (0 < p .atoms) × Ruled u ⌝ }
     ensures { λ r. ⌜ KeptTurn p r × ((st : State) → Shows (u .last) (now (block .entry)) at p (now (scratch .entry)) st →
-        ShowsTurn (u .last) (now (block .entry)) at r (now (scratch .entry)) (endTurn (rulesOf u) st (fields (partOf (now (block .entry)) from to)))) ⌝ }
+        ShowsTurn (u .last) (now (block .entry)) at r (now (scratch .entry)) (totalsEnd (rulesOf u) st)) ⌝ }
 {
-    if lacking(&scratch[Scratch::FIRST_LABEL..Scratch::FIRST_GEOMETRY]) {
-        return Turn::Stop(8, at);
-    }
-    if p.atoms == 0 {
-        return Turn::Stop(8, at);
-    }
-    if !blank(&block[from..to]) {
-        return Turn::Stop(9, at);
-    }
     if !u.totals {
         return geometry_end(at, p, scratch);
     }
@@ -77,6 +62,42 @@ fn end_turn(
         return Turn::Stop(15, at);
     }
     geometry_end(at, p, scratch)
+}
+
+// The END line, its value from `from` to `to` without its comment: 8 a record missing, 9 a value, or STEREOMOLECULE without its own, 13 the YES beside a centre or a
+// pair; then the later tests.
+fn end_turn(
+    block: &[u8],
+    at: usize,
+    from: usize,
+    to: usize,
+    u: Rules,
+    p: Progress,
+    scratch: &[u32],
+) -> Turn
+    requires { ⌜ (length (now scratch) ≡ 2973) × Bounded (length (now block)) p × (from ≤ to) × (to ≤ length (now block)) × Ruled u ⌝ }
+    ensures { λ r. ⌜ KeptTurn p r × ((st : State) → Shows (u .last) (now (block .entry)) at p (now (scratch .entry)) st →
+        ShowsTurn (u .last) (now (block .entry)) at r (now (scratch .entry)) (endTurn (rulesOf u) st (fields (partOf (now (block .entry)) from to)))) ⌝ }
+{
+    if lacking(&scratch[Scratch::FIRST_LABEL..Scratch::FIRST_GEOMETRY]) {
+        return Turn::Stop(8, at);
+    }
+    if p.atoms == 0 {
+        return Turn::Stop(8, at);
+    }
+    if !blank(&block[from..to]) {
+        return Turn::Stop(9, at);
+    }
+    if unanswered(
+        &scratch[Scratch::FIRST_LABEL..Scratch::FIRST_GEOMETRY],
+        p.handed,
+    ) {
+        return Turn::Stop(9, at);
+    }
+    if handed_twice(p) {
+        return Turn::Stop(13, at);
+    }
+    totals_end(block, at, u, p, scratch)
 }
 
 // The formula's value from `from` to `to` without its comment, or its refusal.
@@ -149,8 +170,8 @@ fn value_turn(
     p: Progress,
     scratch: &mut [u32],
 ) -> Turn
-    requires { ⌜ (length (now scratch) ≡ 2972) × Bounded (length (now block)) p × (from ≤ end) × (end ≤ length (now block)) × Ruled u ⌝ }
-    ensures { λ r. ⌜ (length (now (scratch .exit)) ≡ 2972) × BoundedTurn (length (now (block .entry))) r × FlowingTurn end r × ((st : State) → Shows (u .last) (now (block .entry)) at p (now (scratch .entry)) st →
+    requires { ⌜ (length (now scratch) ≡ 2973) × Bounded (length (now block)) p × (from ≤ end) × (end ≤ length (now block)) × Ruled u ⌝ }
+    ensures { λ r. ⌜ (length (now (scratch .exit)) ≡ 2973) × BoundedTurn (length (now (block .entry))) r × FlowingTurn end r × ((st : State) → Shows (u .last) (now (block .entry)) at p (now (scratch .entry)) st →
         ShowsTurn (u .last) (now (block .entry)) at r (now (scratch .exit)) (valueTurn (rulesOf u) (byCode (p .running) known .holds) st from (partOf (now (block .entry)) from end))) ⌝ }
 {
     let running = p.running;
@@ -166,6 +187,7 @@ fn value_turn(
         12 => id_turn(&block[from..to], at, p),
         13 => end_turn(block, at, from, to, u, p, scratch),
         14 | 15 | 16 => geometry_turn(&block[from..to], at, running, p, scratch),
+        17 => yes_turn(&block[from..to], at, p),
         _ => list_turn(&block[from..to], at, running, u.last, p, scratch),
     }
 }
@@ -179,8 +201,8 @@ fn further_turn(
     p: Progress,
     scratch: &mut [u32],
 ) -> Turn
-    requires { ⌜ (length (now scratch) ≡ 2972) × Bounded (length (now block)) p × Flowing at p × (at ≤ end) × (end ≤ length (now block)) × Ruled u ⌝ }
-    ensures { λ r. ⌜ (length (now (scratch .exit)) ≡ 2972) × BoundedTurn (length (now (block .entry))) r × FlowingTurn end r × ((st : State) → Shows (u .last) (now (block .entry)) at p (now (scratch .entry)) st →
+    requires { ⌜ (length (now scratch) ≡ 2973) × Bounded (length (now block)) p × Flowing at p × (at ≤ end) × (end ≤ length (now block)) × Ruled u ⌝ }
+    ensures { λ r. ⌜ (length (now (scratch .exit)) ≡ 2973) × BoundedTurn (length (now (block .entry))) r × FlowingTurn end r × ((st : State) → Shows (u .last) (now (block .entry)) at p (now (scratch .entry)) st →
         ShowsTurn (u .last) (now (block .entry)) at r (now (scratch .exit)) (furtherTurn (rulesOf u) (st .running) st (partOf (now (block .entry)) at end))) ⌝ }
 {
     let running = p.running;
@@ -205,6 +227,7 @@ fn further_turn(
     match running {
         2 | 5 | 12 | 14 | 15 => blank_or(&block[at..to], at, 9, p),
         16 => geometry_turn(&block[at..to], at, running, p, scratch),
+        17 => yes_turn(&block[at..to], at, p),
         _ => list_turn(&block[at..to], at, running, u.last, p, scratch),
     }
 }
@@ -231,8 +254,8 @@ fn label_turn(
     p: Progress,
     scratch: &mut [u32],
 ) -> Turn
-    requires { ⌜ (length (now scratch) ≡ 2972) × Bounded (length (now block)) p × (from ≤ end) × (end ≤ length (now block)) × (code < 17) × Ruled u ⌝ }
-    ensures { λ r. ⌜ (length (now (scratch .exit)) ≡ 2972) × BoundedTurn (length (now (block .entry))) r × FlowingTurn end r × ((st : State) → Shows (u .last) (now (block .entry)) at p (now (scratch .entry)) st →
+    requires { ⌜ (length (now scratch) ≡ 2973) × Bounded (length (now block)) p × (from ≤ end) × (end ≤ length (now block)) × (code < 18) × Ruled u ⌝ }
+    ensures { λ r. ⌜ (length (now (scratch .exit)) ≡ 2973) × BoundedTurn (length (now (block .entry))) r × FlowingTurn end r × ((st : State) → Shows (u .last) (now (block .entry)) at p (now (scratch .entry)) st →
         ShowsTurn (u .last) (now (block .entry)) at r (now (scratch .exit)) (labelTurn (rulesOf u) st from (byCode code known) (partOf (now (block .entry)) from end))) ⌝ }
 {
     let index = code as usize;
@@ -276,8 +299,8 @@ pub fn line_step(
     p: Progress,
     scratch: &mut [u32],
 ) -> Turn
-    requires { ⌜ (length (now scratch) ≡ 2972) × Bounded (length (now block)) p × Flowing at p × (at ≤ end) × (end ≤ length (now block)) × (all allowed (partOf (now block) at end) ≡ true) × Ruled u ⌝ }
-    ensures { λ r. ⌜ (length (now (scratch .exit)) ≡ 2972) × BoundedTurn (length (now (block .entry))) r × FlowingTurn end r × ((st : State) → Shows (u .last) (now (block .entry)) at p (now (scratch .entry)) st → begun st ≡ true →
+    requires { ⌜ (length (now scratch) ≡ 2973) × Bounded (length (now block)) p × Flowing at p × (at ≤ end) × (end ≤ length (now block)) × (all allowed (partOf (now block) at end) ≡ true) × Ruled u ⌝ }
+    ensures { λ r. ⌜ (length (now (scratch .exit)) ≡ 2973) × BoundedTurn (length (now (block .entry))) r × FlowingTurn end r × ((st : State) → Shows (u .last) (now (block .entry)) at p (now (scratch .entry)) st → begun st ≡ true →
         ShowsTurn (u .last) (now (block .entry)) at r (now (scratch .exit)) (lineStep (rulesOf u) st (partOf (now (block .entry)) at end))) ⌝ }
 {
     let line = &block[at..end];

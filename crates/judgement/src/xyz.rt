@@ -22,8 +22,8 @@ use sorted::scratch::Scratch;
 
 // The value of MAX_XYZ (14) or XYZ_FACTOR (15), or a row of XYZ (16), without its comment.
 pub fn geometry_turn(line: &[u8], at: usize, code: u32, p: Progress, scratch: &mut [u32]) -> Turn
-    requires { ⌜ (length (now scratch) ≡ 2972) × Counted p ⌝ }
-    ensures { λ r. ⌜ (length (now (scratch .exit)) ≡ 2972) × KeptTurn p r × ((k : ℕ) (block : Bytes) (st : State) → Shows k block at p (now (scratch .entry)) st →
+    requires { ⌜ (length (now scratch) ≡ 2973) × Counted p ⌝ }
+    ensures { λ r. ⌜ (length (now (scratch .exit)) ≡ 2973) × KeptTurn p r × ((k : ℕ) (block : Bytes) (st : State) → Shows k block at p (now (scratch .entry)) st →
         ShowsTurn k block at r (now (scratch .exit)) (xyzValue (recordOf code) st (fields (now (line .entry))))) ⌝ }
 {
     let region = &mut scratch[Scratch::FIRST_GEOMETRY..Scratch::SIZE];
@@ -35,7 +35,7 @@ pub fn geometry_turn(line: &[u8], at: usize, code: u32, p: Progress, scratch: &m
 
 // The last tests of END: 41 "one or two of the three labels present without the rest", 42 "a value above MAX_XYZ".
 pub fn geometry_end(at: usize, p: Progress, scratch: &[u32]) -> Turn
-    requires { ⌜ (length (now scratch) ≡ 2972) × Counted p ⌝ }
+    requires { ⌜ (length (now scratch) ≡ 2973) × Counted p ⌝ }
     ensures { λ r. ⌜ KeptTurn p r × ((k : ℕ) (block : Bytes) (st : State) → Shows k block at p (now (scratch .entry)) st → ShowsTurn k block at r (now (scratch .entry)) (geometryEnd st)) ⌝ }
 {
     if partly(&scratch[Scratch::FIRST_LABEL..Scratch::FIRST_GEOMETRY]) {
@@ -57,7 +57,7 @@ pub fn xyz_rows(
     scratch: &mut [u32],
     store: &mut [i32],
 ) -> usize
-    requires { ⌜ length (now scratch) ≡ 2972 ⌝ }
+    requires { ⌜ length (now scratch) ≡ 2973 ⌝ }
     ensures { λ r. ⌜ RowsPlaced (now (block .entry)) at top atoms (now (scratch .entry)) (now (scratch .exit)) (now (store .entry)) (now (store .exit)) r ⌝ }
 {
     keep_latest(&scratch[Scratch::FIRST_GEOMETRY..Scratch::SIZE], store);

@@ -1,5 +1,5 @@
 -- A known label is told by its key: the key of a label as it stands is the key of its normalised name, two names with one key that is not the strange one are the
--- same, and so `lookup` goes by the key. Serves document 01, "Lines and labels". Assumes nothing.
+-- same, and so `lookup` goes by the key. Serves document 01, "Lines and labels", and document 02, L4 (STEREOMOLECULE). Assumes nothing.
 use Prim.Native.Nat.{ℕ, zero, suc, _+_, _-_, _*_, _/_, _%_, _≤_, _<_}
 use mathlib.Core.Path.{_≡_, refl, sym, ap, _∙_}
 use mathlib.Core.Bool.{Bool, true, false}
@@ -10,7 +10,7 @@ use native.Mathlib.Omega.{arith}
 use lib.ListN.{length}
 use lib.Seq.{append-snoc}
 use lib.Dec.{eqb, ltb}
-use borrow.Author.Tests.{eq-eqb, ne-eqb, eqb-true, lt-ltb, le-ltb, ltb-true, ltb-false}
+use borrow.Author.Tests.{eq-eqb, ne-eqb, eqb-true, eqb-false, lt-ltb, le-ltb, ltb-true, ltb-false}
 use Rattle.lists.specs.Lists.{any}
 use Rattle.lists.proofs.Bools.{both-ways}
 use Rattle.lists.proofs.PairLaws.{bytes-equal, bytes-same}
@@ -18,18 +18,38 @@ use Rattle.format.specs.Bytes.{Bytes, bytes, within, same}
 use Rattle.format.specs.Rows.{upper, lower}
 use Rattle.format.specs.Labels.{Label, label, normal, known, lookup}
 use Rattle.format.proofs.ByteLaws.{upper-bounds, lower-bounds, within-is, upper-lower, passed, normal-drop, normal-keep, raise-lower, raise-other}
-use Rattle.labels.specs.Keys.{strange, grown, nextKey, keyOf, keys, placeOfKey}
+use Rattle.labels.specs.Keys.{strange, twelveLetters, thirteenLetters, fourteenLetters, longer, grown, nextKey, keyOf, keys, placeOfKey}
 use Rattle.labels.specs.ShownLines.{byCode}
 
 -- CLAUSES
 module _ (key letter : ℕ) where
+  pub longer-thirteen : key ≡ twelveLetters → letter ≡ 12 → longer key letter ≡ thirteenLetters
+  unfolding longer
+  longer-thirteen h k = rw (eq-eqb _ _ h, eq-eqb _ _ k, longer)
+
+  pub longer-not-thirteen : key ≡ twelveLetters → (letter ≡ 12 → ⊥) → longer key letter ≡ strange
+  unfolding longer
+  longer-not-thirteen h k = rw (eq-eqb _ _ h, ne-eqb _ _ k, longer)
+
+  pub longer-fourteen : (key ≡ twelveLetters → ⊥) → key ≡ thirteenLetters → letter ≡ 5 → longer key letter ≡ fourteenLetters
+  unfolding longer
+  longer-fourteen g h k = rw (ne-eqb _ _ g, eq-eqb _ _ h, eq-eqb _ _ k, longer)
+
+  pub longer-not-fourteen : (key ≡ twelveLetters → ⊥) → key ≡ thirteenLetters → (letter ≡ 5 → ⊥) → longer key letter ≡ strange
+  unfolding longer
+  longer-not-fourteen g h k = rw (ne-eqb _ _ g, eq-eqb _ _ h, ne-eqb _ _ k, longer)
+
+  pub longer-none : (key ≡ twelveLetters → ⊥) → (key ≡ thirteenLetters → ⊥) → longer key letter ≡ strange
+  unfolding longer
+  longer-none g h = rw (ne-eqb _ _ g, ne-eqb _ _ h, longer)
+
   pub grown-more : key < 36028797018963968 → grown key letter ≡ key * 32 + letter
   unfolding grown
   grown-more h = rw (lt-ltb _ _ h, grown)
 
-  pub grown-full : 36028797018963968 ≤ key → grown key letter ≡ strange
+  pub grown-longer : 36028797018963968 ≤ key → grown key letter ≡ longer key letter
   unfolding grown
-  grown-full h = rw (le-ltb _ _ h, grown)
+  grown-longer h = rw (le-ltb _ _ h, grown)
 
 module _ (key b : ℕ) where
   pub next-upper : upper b ≡ true → nextKey key b ≡ grown key (b - 64)
@@ -110,7 +130,7 @@ step-stays : (b : ℕ) → nameStep strange b ≡ strange
 step-stays b = go (upper b) refl
   where
     go : (u : Bool) → upper b ≡ u → nameStep strange b ≡ strange
-    go true e = step-upper strange b e ∙ grown-full strange (b - 64) (omega arith)
+    go true e = step-upper strange b e ∙ grown-longer strange (b - 64) (omega arith) ∙ longer-none strange (b - 64) (λ q. omega arith) (λ q. omega arith)
     go false e = step-strange strange b e
 
 strange-stays : (n : Bytes) → nameKey strange n ≡ strange
@@ -118,54 +138,95 @@ unfolding nameKey
 strange-stays [] = refl
 strange-stays (b ∷ n) = ap (λ (k : ℕ). nameKey k n) (step-stays b) ∙ strange-stays n
 
+-- the key without its last letter, and that letter
+unfoldable before : (key : ℕ) → ℕ
+before key = elim (eqb key fourteenLetters) [ true ↦ thirteenLetters | false ↦ elim (eqb key thirteenLetters) [ true ↦ twelveLetters | false ↦ key / 32 ] ]
+
+unfoldable latest : (key : ℕ) → ℕ
+latest key = elim (eqb key fourteenLetters) [ true ↦ 5 | false ↦ elim (eqb key thirteenLetters) [ true ↦ 12 | false ↦ key % 32 ] ]
+
+before-short : (key : ℕ) → key < strange → before key ≡ key / 32
+unfolding before
+before-short key h = rw (ne-eqb key fourteenLetters (λ q. omega arith), ne-eqb key thirteenLetters (λ q. omega arith), before)
+
+latest-short : (key : ℕ) → key < strange → latest key ≡ key % 32
+unfolding latest
+latest-short key h = rw (ne-eqb key fourteenLetters (λ q. omega arith), ne-eqb key thirteenLetters (λ q. omega arith), latest)
+
 -- the name that a key spells, of at most as many letters
 unfoldable spell : ℕ → (key : ℕ) → Bytes
 spell zero key = []
-spell (suc f) key = elim (eqb key 0) [ true ↦ [] | false ↦ spell f (key / 32) ++ ((64 + key % 32) ∷ []) ]
+spell (suc f) key = elim (eqb key 0) [ true ↦ [] | false ↦ spell f (before key) ++ ((64 + latest key) ∷ []) ]
 
 spell-nothing : (f : ℕ) → spell f 0 ≡ []
 unfolding spell
 spell-nothing zero = refl
 spell-nothing (suc f) = refl
 
-spell-more : (f key : ℕ) → 0 < key → spell (suc f) key ≡ spell f (key / 32) ++ ((64 + key % 32) ∷ [])
+spell-more : (f key : ℕ) → 0 < key → spell (suc f) key ≡ spell f (before key) ++ ((64 + latest key) ∷ [])
 unfolding spell
 spell-more f key h = rw (ne-eqb key 0 (λ q. omega arith), spell)
 
-spell-grown : (f key b : ℕ) → upper b ≡ true → spell (suc f) (key * 32 + (b - 64)) ≡ spell f key ++ (b ∷ [])
-spell-grown f key b e =
-    let h : (65 ≤ b) × (b ≤ 90) = upper-bounds b e in
-    let p : (key * 32 + (b - 64)) / 32 ≡ key = omega arith in
-    let q : 64 + (key * 32 + (b - 64)) % 32 ≡ b = omega arith in
-    rw (spell-more f (key * 32 + (b - 64)) (omega arith), p, q)
+-- a key that is another and the letter b behind it
+abbrev Ends : (key b next : ℕ) → Type 0
+Ends key b next = (0 < next) × (before next ≡ key) × (64 + latest next ≡ b)
 
--- a step that does not make the key strange is a letter more
-letter-more : (key b : ℕ) → (nameStep key b ≡ strange → ⊥) → (upper b ≡ true) × (nameStep key b ≡ key * 32 + (b - 64))
-letter-more key b h = go (upper b) (ltb key 36028797018963968) refl refl
+spell-ends : (f key b next : ℕ) → Ends key b next → spell (suc f) next ≡ spell f key ++ (b ∷ [])
+spell-ends f key b next e = rw (spell-more f next (e .0), e .1, e .2)
+
+-- a step that does not make the key strange is a letter more: of at most twelve, or one of the last two of the longer label
+module _ (key b : ℕ) (u : upper b ≡ true) where
+  more-ends : key < 36028797018963968 → Ends key b (key * 32 + (b - 64))
+  more-ends h =
+      let i : (65 ≤ b) × (b ≤ 90) = upper-bounds b u in
+      let s : key * 32 + (b - 64) < strange = omega arith in
+      let p : (key * 32 + (b - 64)) / 32 ≡ key = omega arith in
+      let q : 64 + (key * 32 + (b - 64)) % 32 ≡ b = omega arith in
+      (omega arith, before-short _ s ∙ p, ap (λ (n : ℕ). 64 + n) (latest-short _ s) ∙ q)
+
+  thirteen-ends : key ≡ twelveLetters → b - 64 ≡ 12 → Ends key b thirteenLetters
+  unfolding before latest
+  thirteen-ends h k = (omega arith, sym h, omega arith)
+
+  fourteen-ends : key ≡ thirteenLetters → b - 64 ≡ 5 → Ends key b fourteenLetters
+  unfolding before latest
+  fourteen-ends h k = (omega arith, sym h, omega arith)
+
+  longer-ends : (longer key (b - 64) ≡ strange → ⊥) → Ends key b (longer key (b - 64))
+  longer-ends h = go (eqb key twelveLetters) (eqb key thirteenLetters) (eqb (b - 64) 12) (eqb (b - 64) 5) refl refl refl refl
+    where
+      go : (t f l e : Bool) → eqb key twelveLetters ≡ t → eqb key thirteenLetters ≡ f → eqb (b - 64) 12 ≡ l → eqb (b - 64) 5 ≡ e → Ends key b (longer key (b - 64))
+      go true f true e p q r s = rw (longer-thirteen key (b - 64) (eqb-true _ _ p) (eqb-true _ _ r)) (thirteen-ends (eqb-true _ _ p) (eqb-true _ _ r))
+      go true f false e p q r s = absurd (h (longer-not-thirteen key (b - 64) (eqb-true _ _ p) (eqb-false _ _ r)))
+      go false true l true p q r s = rw (longer-fourteen key (b - 64) (eqb-false _ _ p) (eqb-true _ _ q) (eqb-true _ _ s)) (fourteen-ends (eqb-true _ _ q) (eqb-true _ _ s))
+      go false true l false p q r s = absurd (h (longer-not-fourteen key (b - 64) (eqb-false _ _ p) (eqb-true _ _ q) (eqb-false _ _ s)))
+      go false false l e p q r s = absurd (h (longer-none key (b - 64) (eqb-false _ _ p) (eqb-false _ _ q)))
+
+step-ends : (key b : ℕ) → (nameStep key b ≡ strange → ⊥) → Ends key b (nameStep key b)
+step-ends key b h = go (upper b) (ltb key 36028797018963968) refl refl
   where
-    go : (u l : Bool) → upper b ≡ u → ltb key 36028797018963968 ≡ l → (upper b ≡ true) × (nameStep key b ≡ key * 32 + (b - 64))
-    go true true e f = (e, step-upper key b e ∙ grown-more key (b - 64) (ltb-true _ _ f))
-    go true false e f = absurd (h (step-upper key b e ∙ grown-full key (b - 64) (ltb-false _ _ f)))
+    go : (u l : Bool) → upper b ≡ u → ltb key 36028797018963968 ≡ l → Ends key b (nameStep key b)
+    go true true e f = rw (step-upper key b e ∙ grown-more key (b - 64) (ltb-true _ _ f)) (more-ends key b e (ltb-true _ _ f))
+    go true false e f =
+        let p : nameStep key b ≡ longer key (b - 64) = step-upper key b e ∙ grown-longer key (b - 64) (ltb-false _ _ f) in
+        rw p (longer-ends key b e (λ q. h (p ∙ q)))
     go false l e f = absurd (h (step-strange key b e))
 
-spell-name : (n : Bytes) (f key : ℕ) → nameKey key n < strange → spell (f + length n) (nameKey key n) ≡ spell f key ++ n
+spell-name : (n : Bytes) (f key : ℕ) → (nameKey key n ≡ strange → ⊥) → spell (f + length n) (nameKey key n) ≡ spell f key ++ n
 unfolding nameKey
 spell-name [] f key h = let z : f + 0 ≡ f = omega arith in rw z (sym (append-nil (spell f key)))
 spell-name (b ∷ n) f key h =
-    let l : (upper b ≡ true) × (nameStep key b ≡ key * 32 + (b - 64)) = letter-more key b (λ q. omega (arith, ap (λ (k : ℕ). nameKey k n) q, strange-stays n)) in
+    let l : Ends key b (nameStep key b) = step-ends key b (λ q. h (ap (λ (k : ℕ). nameKey k n) q ∙ strange-stays n)) in
     let z : f + suc (length n) ≡ suc f + length n = omega arith in
-    rw z (spell-name n (suc f) (nameStep key b) h)
-    ∙ ap (λ (k : ℕ). spell (suc f) k ++ n) (l .1)
-    ∙ ap (λ (w : Bytes). w ++ n) (spell-grown f key b (l .0))
-    ∙ append-snoc (spell f key) b n
+    rw z (spell-name n (suc f) (nameStep key b) h) ∙ ap (λ (w : Bytes). w ++ n) (spell-ends f key b (nameStep key b) l) ∙ append-snoc (spell f key) b n
 
-one-name : (n m : Bytes) → nameKey 0 m < strange → nameKey 0 n ≡ nameKey 0 m → n ≡ m
+one-name : (n m : Bytes) → (nameKey 0 m ≡ strange → ⊥) → nameKey 0 n ≡ nameKey 0 m → n ≡ m
 one-name n m h e =
-    let p : spell (length m + length n) (nameKey 0 n) ≡ n = spell-name n (length m) 0 (omega arith) ∙ ap (λ (w : Bytes). w ++ n) (spell-nothing (length m)) in
+    let p : spell (length m + length n) (nameKey 0 n) ≡ n = spell-name n (length m) 0 (λ q. h (sym e ∙ q)) ∙ ap (λ (w : Bytes). w ++ n) (spell-nothing (length m)) in
     let q : spell (length n + length m) (nameKey 0 m) ≡ m = spell-name m (length n) 0 h ∙ ap (λ (w : Bytes). w ++ m) (spell-nothing (length n)) in
     sym p ∙ ap (spell (length m + length n)) e ∙ ap (λ (f : ℕ). spell f (nameKey 0 m)) (add-comm (length m) (length n)) ∙ q
 
-same-key : (n m : Bytes) → nameKey 0 m < strange → same n m ≡ eqb (nameKey 0 n) (nameKey 0 m)
+same-key : (n m : Bytes) → (nameKey 0 m ≡ strange → ⊥) → same n m ≡ eqb (nameKey 0 n) (nameKey 0 m)
 same-key n m h =
     both-ways (same n m) (eqb (nameKey 0 n) (nameKey 0 m)) (λ e. eq-eqb _ _ (ap (nameKey 0) (bytes-equal n m e))) (λ e. bytes-same n m (one-name n m h (eqb-true _ _ e)))
 
@@ -175,7 +236,7 @@ abbrev Keyed : ℕ → List Label → List ℕ → Type 0
 Keyed n [] [] = Unit {0}
 Keyed n [] (k ∷ ks) = ⊥
 Keyed n (x ∷ xs) [] = ⊥
-Keyed n (x ∷ xs) (k ∷ ks) = (x .code ≡ n) × (nameKey 0 (x .name) ≡ k) × (k < strange) × Keyed (suc n) xs ks
+Keyed n (x ∷ xs) (k ∷ ks) = (x .code ≡ n) × (nameKey 0 (x .name) ≡ k) × (eqb k strange ≡ false) × Keyed (suc n) xs ks
 
 place-low : (n key : ℕ) (ks : List ℕ) → (placeOfKey n key ks ≡ 0) ⊎ (n ≤ placeOfKey n key ks)
 unfolding placeOfKey
@@ -218,23 +279,23 @@ look-key n (x ∷ xs) (k ∷ ks) w p h = go (eqb (nameKey 0 w) k) refl (look-key
   where
     go : (t : Bool) → eqb (nameKey 0 w) k ≡ t → lookup w xs ≡ byCode (placeOfKey (suc n) (nameKey 0 w) ks) xs → lookup w (x ∷ xs) ≡ byCode (placeOfKey n (nameKey 0 w) (k ∷ ks)) (x ∷ xs)
     go true e ih =
-        look-hit x xs w (same-key w (x .name) (omega (arith, h .1, h .2)) ∙ ap (eqb (nameKey 0 w)) (h .1) ∙ e)
+        look-hit x xs w (same-key w (x .name) (λ q. eqb-false k strange (h .2) (sym (h .1) ∙ q)) ∙ ap (eqb (nameKey 0 w)) (h .1) ∙ e)
         ∙ sym (ap (λ (c : ℕ). byCode c (x ∷ xs)) (place-hit n (nameKey 0 w) k ks e) ∙ code-hit x xs n (eq-eqb n (x .code) (sym (h .0))))
     go false e ih =
-        look-miss x xs w (same-key w (x .name) (omega (arith, h .1, h .2)) ∙ ap (eqb (nameKey 0 w)) (h .1) ∙ e)
+        look-miss x xs w (same-key w (x .name) (λ q. eqb-false k strange (h .2) (sym (h .1) ∙ q)) ∙ ap (eqb (nameKey 0 w)) (h .1) ∙ e)
         ∙ ih
         ∙ sym (ap (λ (c : ℕ). byCode c (x ∷ xs)) (place-miss n (nameKey 0 w) k ks e) ∙ code-miss x xs (placeOfKey (suc n) (nameKey 0 w) ks) (unlike _ n (x .code) p (h .0) (place-low (suc n) (nameKey 0 w) ks)))
 
 known-keyed : Keyed 1 known keys
-unfolding bytes within known label keys nameKey nameStep grown
-known-keyed = (refl, refl, omega arith, (refl, refl, omega arith, (refl, refl, omega arith, (refl, refl, omega arith, (refl, refl, omega arith, (refl, refl, omega arith, (refl, refl, omega arith, (refl, refl, omega arith, (refl, refl, omega arith, (refl, refl, omega arith, (refl, refl, omega arith, (refl, refl, omega arith, (refl, refl, omega arith, (refl, refl, omega arith, (refl, refl, omega arith, (refl, refl, omega arith, tt))))))))))))))))
+unfolding bytes within known label keys nameKey nameStep grown longer
+known-keyed = (refl, refl, refl, (refl, refl, refl, (refl, refl, refl, (refl, refl, refl, (refl, refl, refl, (refl, refl, refl, (refl, refl, refl, (refl, refl, refl, (refl, refl, refl, (refl, refl, refl, (refl, refl, refl, (refl, refl, refl, (refl, refl, refl, (refl, refl, refl, (refl, refl, refl, (refl, refl, refl, (refl, refl, refl, tt)))))))))))))))))
 
 -- the rule: a label is looked up by its key
 pub lookup-key : (s : Bytes) → lookup (normal s) known ≡ byCode (placeOfKey 1 (keyOf 0 s) keys) known
 lookup-key s = look-key 1 known keys (normal s) (omega arith) known-keyed ∙ ap (λ (k : ℕ). byCode (placeOfKey 1 k keys) known) (sym (key-name 0 s))
 
--- a key that is none of the sixteen
+-- a key that is none of the seventeen
 pub keyless : (key : ℕ)
-    → (key ≡ 21287301 → ⊥) → (key ≡ 10839572595 → ⊥) → (key ≡ 522493230 → ⊥) → (key ≡ 16496818 → ⊥) → (key ≡ 14474755661 → ⊥) → (key ≡ 56351925876 → ⊥) → (key ≡ 85299963508 → ⊥) → (key ≡ 109103333 → ⊥) → (key ≡ 19365399596 → ⊥) → (key ≡ 707261042578116786 → ⊥) → (key ≡ 690684612314418 → ⊥) → (key ≡ 2565975332 → ⊥) → (key ≡ 5572 → ⊥) → (key ≡ 438068026 → ⊥) → (key ≡ 27275392307698 → ⊥) → (key ≡ 25402 → ⊥) → placeOfKey 1 key keys ≡ 0
+    → (key ≡ 21287301 → ⊥) → (key ≡ 10839572595 → ⊥) → (key ≡ 522493230 → ⊥) → (key ≡ 16496818 → ⊥) → (key ≡ 14474755661 → ⊥) → (key ≡ 56351925876 → ⊥) → (key ≡ 85299963508 → ⊥) → (key ≡ 109103333 → ⊥) → (key ≡ 19365399596 → ⊥) → (key ≡ 707261042578116786 → ⊥) → (key ≡ 690684612314418 → ⊥) → (key ≡ 2565975332 → ⊥) → (key ≡ 5572 → ⊥) → (key ≡ 438068026 → ⊥) → (key ≡ 27275392307698 → ⊥) → (key ≡ 25402 → ⊥) → (key ≡ fourteenLetters → ⊥) → placeOfKey 1 key keys ≡ 0
 unfolding placeOfKey keys
-keyless key a b c d e f g h i j k l m n o p = rw (ne-eqb key 21287301 a, ne-eqb key 10839572595 b, ne-eqb key 522493230 c, ne-eqb key 16496818 d, ne-eqb key 14474755661 e, ne-eqb key 56351925876 f, ne-eqb key 85299963508 g, ne-eqb key 109103333 h, ne-eqb key 19365399596 i, ne-eqb key 707261042578116786 j, ne-eqb key 690684612314418 k, ne-eqb key 2565975332 l, ne-eqb key 5572 m, ne-eqb key 438068026 n, ne-eqb key 27275392307698 o, ne-eqb key 25402 p, placeOfKey)
+keyless key a b c d e f g h i j k l m n o p q = rw (ne-eqb key 21287301 a, ne-eqb key 10839572595 b, ne-eqb key 522493230 c, ne-eqb key 16496818 d, ne-eqb key 14474755661 e, ne-eqb key 56351925876 f, ne-eqb key 85299963508 g, ne-eqb key 109103333 h, ne-eqb key 19365399596 i, ne-eqb key 707261042578116786 j, ne-eqb key 690684612314418 k, ne-eqb key 2565975332 l, ne-eqb key 5572 m, ne-eqb key 438068026 n, ne-eqb key 27275392307698 o, ne-eqb key 25402 p, ne-eqb key fourteenLetters q, placeOfKey)

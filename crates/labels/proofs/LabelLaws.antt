@@ -89,7 +89,7 @@ module _ (l : Bytes) where
     high = λ c at q. let z : _≡_ {A = ℕ} 0 1 = cc in absurd (omega arith);
   }
 
-  pub shows-labelled : (c k at : ℕ) → lineOf l ≡ Labelled (byCode k known) (drop at l) → c ≡ k → c < 17 → at ≤ length l → ShowsLine l (K.Labelled c at)
+  pub shows-labelled : (c k at : ℕ) → lineOf l ≡ Labelled (byCode k known) (drop at l) → c ≡ k → c < 18 → at ≤ length l → ShowsLine l (K.Labelled c at)
   shows-labelled c k at e d h i = record {
     is = ap (λ (n : ℕ). Labelled (byCode n known) (drop at l)) d ∙ sym e;
     code = λ c′ at′ q. let z : c ≡ c′ = cc in omega arith;

@@ -1,5 +1,6 @@
 -- The key of a label: its letters, A = 1 to Z = 26, as the digits of a number, five bits a letter and at most twelve letters, read in one pass over the label as it
--- stands. Document 01, "Lines and labels" ("For comparison letters become upper case, and space, `-`, `/`, `_` are dropped."). Assumes nothing.
+-- stands; the one known label that is longer has numbers of its own for its last two letters. Document 01, "Lines and labels" ("For comparison letters become upper
+-- case, and space, `-`, `/`, `_` are dropped."), and document 02, L4 (STEREOMOLECULE). Assumes nothing.
 use Prim.Native.Nat.{ℕ, suc, _+_, _-_, _*_}
 use mathlib.Core.Bool.{true, false}
 use mathlib.Core.List.{List, [], _∷_}
@@ -11,9 +12,27 @@ use Rattle.format.specs.Rows.{upper, lower}
 abbrev pub strange : ℕ
 strange = 1152921504606846976
 
+-- STEREOMOLECULE has fourteen letters: the key of its first twelve, and, above the strange one, those of its first thirteen and of all
+abbrev pub twelveLetters : ℕ
+twelveLetters = 707261042924065909
+
+abbrev pub thirteenLetters : ℕ
+thirteenLetters = 1152921504606846977
+
+abbrev pub fourteenLetters : ℕ
+fourteenLetters = 1152921504606846978
+
+-- one letter more than twelve: STEREOMOLECU and L, STEREOMOLECUL and E, and no other
+unfoldable pub longer : (key letter : ℕ) → ℕ
+longer key letter =
+    elim (eqb key twelveLetters) [
+      | true ↦ elim (eqb letter 12) [ true ↦ thirteenLetters | false ↦ strange ]
+      | false ↦ elim (eqb key thirteenLetters) [ true ↦ elim (eqb letter 5) [ true ↦ fourteenLetters | false ↦ strange ] | false ↦ strange ]
+    ]
+
 -- one letter more; a key of twelve letters is not below 2 ^ 55
 unfoldable pub grown : (key letter : ℕ) → ℕ
-grown key letter = elim (ltb key 36028797018963968) [ true ↦ key * 32 + letter | false ↦ strange ]
+grown key letter = elim (ltb key 36028797018963968) [ true ↦ key * 32 + letter | false ↦ longer key letter ]
 
 -- one byte of the label more
 unfoldable pub nextKey : (key b : ℕ) → ℕ
@@ -46,6 +65,7 @@ keys =
     ∷ 438068026
     ∷ 27275392307698
     ∷ 25402
+    ∷ fourteenLetters
     ∷ []
 
 -- the place of a key among some, counted from n; 0 where it is not there

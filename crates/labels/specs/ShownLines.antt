@@ -22,5 +22,5 @@ shownLine line (K.Labelled code at) = Labelled (byCode code known) (drop at line
 
 pub record ShowsLine (line : Bytes) (r : LineKind) : Type 0 where
   pub is : shownLine line r ≡ lineOf line
-  pub code : (code at : ℕ) → r ≡ K.Labelled code at → code < 17
+  pub code : (code at : ℕ) → r ≡ K.Labelled code at → code < 18
   pub high : (code at : ℕ) → r ≡ K.Labelled code at → at ≤ length line

@@ -1,10 +1,11 @@
-// Label lines: document 01, "Lines and labels". The label is compared where it stands, in one pass to its `=`: its letters are read into a key, five bits a letter.
+// Label lines: document 01, "Lines and labels"; document 02, L4 (STEREOMOLECULE). The label is compared where it stands, in one pass to its `=`: its letters are read
+// into a key, five bits a letter.
 ghost use mathlib.Core.Path.{_≡_};
 ghost use mathlib.Core.List.{[], _∷_};
 ghost use Prim.Native.Nat.{_<_};
 ghost use Rattle.format.specs.Bytes.{isIn};
 ghost use Rattle.format.specs.Labels.{titleLine};
-ghost use Rattle.labels.specs.Keys.{grown, nextKey, placeOfKey, keys};
+ghost use Rattle.labels.specs.Keys.{longer, grown, nextKey, placeOfKey, keys};
 ghost use Rattle.labels.specs.ShownLines.{ShowsLine};
 
 // What a line is: no label line, a label line without `=`, or its label's code (0: skipped) and where the value starts.
@@ -30,14 +31,48 @@ fn is_dropped(b: u8) -> bool
     b == 95
 }
 
-// The key with one letter more, 1 to 26; a 13th letter makes it the key of no known label.
+// The key of no known label, above every key of twelve letters.
+const STRANGE: u64 = 1152921504606846976;
+
+// STEREOMOLECULE alone is longer: the key of its first twelve letters, and, above the strange one, those of its first thirteen and of all fourteen.
+const TWELVE_LETTERS: u64 = 707261042924065909;
+
+const THIRTEEN_LETTERS: u64 = 1152921504606846977;
+
+const FOURTEEN_LETTERS: u64 = 1152921504606846978;
+
+// The letters that come behind: `L`, then `E`.
+const LETTER_L: u8 = 12;
+
+const LETTER_E: u8 = 5;
+
+// The key of twelve letters or more with one more. Apart from `grown_key`: few labels are so long, and the others need not pay for them.
+fn longer_key(key: u64, letter: u8) -> u64
+    ensures { λ r. ⌜ r ≡ longer key letter ⌝ }
+{
+    if key == TWELVE_LETTERS {
+        if letter == LETTER_L {
+            return THIRTEEN_LETTERS;
+        }
+        return STRANGE;
+    }
+    if key == THIRTEEN_LETTERS {
+        if letter == LETTER_E {
+            return FOURTEEN_LETTERS;
+        }
+        return STRANGE;
+    }
+    STRANGE
+}
+
+// The key with one letter more, 1 to 26; that of twelve letters has no room for five bits more.
 fn grown_key(key: u64, letter: u8) -> u64
     ensures { λ r. ⌜ r ≡ grown key letter ⌝ }
 {
     if key < 36028797018963968 {
         return key * 32 + letter as u64;
     }
-    1152921504606846976
+    longer_key(key, letter)
 }
 
 // The bytes before `A` and before `a`: a letter's place in the alphabet counts from 1.
@@ -58,12 +93,12 @@ fn next_key(key: u64, b: u8) -> u64
     if is_dropped(b) {
         return key;
     }
-    1152921504606846976
+    STRANGE
 }
 
 // The code of the known label that has this key, 0 where none has it.
 fn code_of(key: u64) -> u8
-    ensures { λ r. ⌜ (r ≡ placeOfKey 1 key keys) × (r < 17) ⌝ }
+    ensures { λ r. ⌜ (r ≡ placeOfKey 1 key keys) × (r < 18) ⌝ }
 {
     match key {
         21287301 => 1,
@@ -82,6 +117,7 @@ fn code_of(key: u64) -> u8
         438068026 => 14,
         27275392307698 => 15,
         25402 => 16,
+        FOURTEEN_LETTERS => 17,
         _ => 0,
     }
 }

@@ -260,3 +260,10 @@ module _ {A : Type 0} where
         go : (t : Bool) → p x ≡ t → (any p xs ≡ true → all q xs ≡ true → any r xs ≡ true) → any r (x ∷ xs) ≡ true
         go true e ih = any-hit r x xs (and-both (p x) (q x) e (all-parts q x xs k .0))
         go false e ih = any-later r x xs (ih (sym (any-miss p x xs e) ∙ h) (all-parts q x xs k .1))
+
+-- lists as long as each other are empty or not alike
+pub same-none : {A B : Type 0} (xs : List A) (ys : List B) → length xs ≡ length ys → isNil xs ≡ isNil ys
+same-none [] [] e = refl
+same-none [] (y ∷ ys) e = absurd (omega (arith, e))
+same-none (x ∷ xs) [] e = absurd (omega (arith, e))
+same-none (x ∷ xs) (y ∷ ys) e = refl

@@ -15,7 +15,7 @@ use Rattle.format.specs.Bytes.{Bytes}
 use Rattle.format.specs.Labels.{ListOf, Bonds, Charges, Radicals, Centres, Pairs}
 use Rattle.format.specs.Structure.{Structure, rowsOf, lists, rowBefore}
 use Rattle.format.specs.Reading.{State, finished, spanOf}
-use Rattle.format.specs.Table.{atomCells, rowsPart, counts, spanCells, derived, encode}
+use Rattle.format.specs.Table.{atomCells, rowsPart, counts, spanCells, flag, derived, encode}
 use Rattle.sorted.specs.Regions.{kindsRegion}
 use Rattle.gather.specs.Progress.{proseAt, Counted, Bounded, Listed, Holding}
 use Rattle.gather.specs.declared.progress.Progress.{Progress}
@@ -135,11 +135,17 @@ counts-are p s c i l =
       l .id,
     )
 
-header-is : (block : Bytes) (p : Progress) (s : Structure) (rest : List ℤ) → countsOut p ≡ map pos (counts s)
+handed-is : (p : Progress) (s : Structure) → Listed p s → finished s .handed ≡ p .handed
+unfolding finished
+handed-is p s l = l .handed
+
+header-is : (block : Bytes) (p : Progress) (s : Structure) (rest : List ℤ) → countsOut p ≡ map pos (counts s) → s .handed ≡ p .handed
     → headerOut block p ++ rest
     ≡ map pos (counts s) ++ (flat spanCells (map spanOf (proseAt block (p .title) ∷ proseAt block (p .origin) ∷ proseAt block (p .owner) ∷ [])) ++ (derived s ++ rest))
 unfolding headerOut derived flat counts
-header-is block p s rest e = ap (λ l. l ++ (spanCells (spanOf (proseAt block (p .title))) ++ (spanCells (spanOf (proseAt block (p .origin))) ++ (spanCells (spanOf (proseAt block (p .owner))) ++ (pos 0 ∷ pos 0 ∷ pos 0 ∷ rest))))) e
+header-is block p s rest e f =
+    ap (λ l. l ++ (spanCells (spanOf (proseAt block (p .title))) ++ (spanCells (spanOf (proseAt block (p .origin))) ++ (spanCells (spanOf (proseAt block (p .owner))) ++ (flag (p .handed) ∷ pos 0 ∷ pos 0 ∷ rest))))) e
+    ∙ ap (λ y. map pos (counts s) ++ (flat spanCells (map spanOf (proseAt block (p .title) ∷ proseAt block (p .origin) ∷ proseAt block (p .owner) ∷ [])) ++ (flag y ∷ pos 0 ∷ pos 0 ∷ rest))) (sym f)
 
 rows-are : (s : Structure) → rowsPart s Bonds ++ ((rowsPart s Charges ++ rowsPart s Radicals) ++ (rowsPart s Centres ++ rowsPart s Pairs)) ≡ flat (rowsPart s) lists
 unfolding flat lists
@@ -198,17 +204,17 @@ module _ (k : ℕ) (b : k ≤ 103) (block : Bytes) (size : ℕ) (p : Progress) (
       let rest : List ℤ = filled (pos 0) 1280 (atomCells 1 (s .charges) (s .radicals) (s .atoms)) ++ flat (rowsPart s) lists in
       ap (λ l. headerOut block p ++ (l ++ rowsOut p t cs rs)) (atoms-out co cs ro rs f g)
       ∙ ap (λ l. headerOut block p ++ (filled (pos 0) 1280 (atomCells 1 (s .charges) (s .radicals) (s .atoms)) ++ l)) (rows-out co cs ro rs f g)
-      ∙ header-is block p s rest (counts-are p (st .body) (w .counted) (w .id) (h .listed))
+      ∙ header-is block p s rest (counts-are p (st .body) (w .counted) (w .id) (h .listed)) (handed-is p (st .body) (h .listed))
       ∙ ap (λ x. map pos (counts s) ++ (flat spanCells (map spanOf x) ++ (derived s ++ rest))) (sym (h .texts))
 
 -- RENUMBERED: what a renumbering is lent has its length
-lent-long : (from : ℕ) (t : List ℕ) → length t ≡ 2972 → from + 321 ≤ 2972 → length (take 321 (drop from t)) ≡ 321
+lent-long : (from : ℕ) (t : List ℕ) → length t ≡ 2973 → from + 321 ≤ 2973 → length (take 321 (drop from t)) ≡ 321
 lent-long from t h k = length-take-le 321 (drop from t) (simp length-drop (omega arith))
 
 blank-long : (n : ℕ) (t : List ℕ) → t ≡ filled 0 n [] → length t ≡ n
 blank-long n t e = ap length (e ∙ filled-nil 0 n) ∙ length-replicate {A = ℕ} n 0
 
-pub publishes : (table table′ : List ℤ) (block : Bytes) (size : ℕ) (p : Progress) (t co₀ cs₀ ro₀ rs₀ co cs ro rs : List ℕ) → length t ≡ 2972 → Bounded size p → co₀ ≡ filled 0 65 [] → cs₀ ≡ filled 0 64 []
+pub publishes : (table table′ : List ℤ) (block : Bytes) (size : ℕ) (p : Progress) (t co₀ cs₀ ro₀ rs₀ co cs ro rs : List ℕ) → length t ≡ 2973 → Bounded size p → co₀ ≡ filled 0 65 [] → cs₀ ≡ filled 0 64 []
     → ro₀ ≡ filled 0 65 [] → rs₀ ≡ filled 0 64 [] → Renumbering (take 321 (drop 768 t)) (p .atoms) (p .charges) co₀ cs₀ co cs
     → Renumbering (take 321 (drop 1089 t)) (p .atoms) (p .radicals) ro₀ rs₀ ro rs → table′ ≡ tableOut block p t co cs ro rs ++ drop 3856 table → (k : ℕ) (st : State) → Holding k block p t st
     → k ≤ 103 → table′ ≡ encode (finished (st .body)) (map spanOf (st .texts)) ++ drop 3856 table

@@ -40,7 +40,7 @@ fn fill_spread(part: &mut [i32], p: Progress, charges: &[u32], radicals: &[u32])
 
 // The centres and the pairs.
 fn fill_marked(part: &mut [i32], p: Progress, scratch: &[u32])
-    requires { ⌜ (length (now part) ≡ 896) × Counted p × (length (now scratch) ≡ 2972) ⌝ }
+    requires { ⌜ (length (now part) ≡ 896) × Counted p × (length (now scratch) ≡ 2973) ⌝ }
     ensures { λ _. ⌜ now (part .exit) ≡ markedOut p (now (scratch .entry)) ⌝ }
 {
     filling::keyed::fill_centres(
@@ -57,7 +57,7 @@ fn fill_marked(part: &mut [i32], p: Progress, scratch: &[u32])
 
 // All five lists of rows.
 fn fill_rows(part: &mut [i32], p: Progress, scratch: &[u32], charges: &[u32], radicals: &[u32])
-    requires { ⌜ (length (now part) ≡ 2560) × Counted p × (length (now scratch) ≡ 2972) × (length (now charges) ≡ 64) × (length (now radicals) ≡ 64) ⌝ }
+    requires { ⌜ (length (now part) ≡ 2560) × Counted p × (length (now scratch) ≡ 2973) × (length (now charges) ≡ 64) × (length (now radicals) ≡ 64) ⌝ }
     ensures { λ _. ⌜ now (part .exit) ≡ rowsOut p (now (scratch .entry)) (now (charges .entry)) (now (radicals .entry)) ⌝ }
 {
     filling::keyed::fill_bonds(
@@ -80,7 +80,7 @@ fn fill_table(
     radical_order: &[u32],
     radicals: &[u32],
 )
-    requires { ⌜ (3856 ≤ length (now table)) × (length (now scratch) ≡ 2972) × Bounded (length (now block)) p × (length (now block) ≤ 32768) × (length (now charges) ≡ 64) × (length (now radicals) ≡ 64) ⌝ }
+    requires { ⌜ (3856 ≤ length (now table)) × (length (now scratch) ≡ 2973) × Bounded (length (now block)) p × (length (now block) ≤ 32768) × (length (now charges) ≡ 64) × (length (now radicals) ≡ 64) ⌝ }
     ensures { λ _. ⌜ now (table .exit) ≡ tableOut (now (block .entry)) p (now (scratch .entry)) (now («charge_order» .entry)) (now (charges .entry)) (now («radical_order» .entry)) (now (radicals .entry)) ++ drop 3856 (now (table .entry)) ⌝ }
 {
     header::fill_header(&mut table[0..Table::FIRST_ATOM], block, p);
@@ -104,7 +104,7 @@ fn fill_table(
 
 // The structure that progress and scratch hold.
 fn put_structure(block: &[u8], p: Progress, scratch: &[u32], table: &mut [i32])
-    requires { ⌜ (3856 ≤ length (now table)) × (length (now scratch) ≡ 2972) × Bounded (length (now block)) p × (length (now block) ≤ 32768) ⌝ }
+    requires { ⌜ (3856 ≤ length (now table)) × (length (now scratch) ≡ 2973) × Bounded (length (now block)) p × (length (now block) ≤ 32768) ⌝ }
     ensures { λ _. ⌜ ((k : ℕ) (st : State) → Holding k (now (block .entry)) p (now (scratch .entry)) st → k ≤ 103 → now (table .exit) ≡ encode (finished (st .body)) (map spanOf (st .texts)) ++ drop 3856 (now (table .entry))) ⌝ }
 {
     let mut charge_order = [0u32; Table::CHARGES + 1];
@@ -140,7 +140,7 @@ fn put_structure(block: &[u8], p: Progress, scratch: &[u32], table: &mut [i32])
 // The structure that progress and scratch hold, in the lent table. It is untouched where it is shorter than 3,856, the scratch has another length, the block is too long or
 // progress is none that a reading leaves.
 pub fn publish(block: &[u8], p: Progress, scratch: &[u32], table: &mut [i32])
-    ensures { λ _. ⌜ (((3856 ≤ length (now (table .entry))) × (length (now (scratch .entry)) ≡ 2972) × (length (now (block .entry)) ≤ 32768) × Bounded (length (now (block .entry))) p → ⊥) → now (table .exit) ≡ now (table .entry)) × ((k : ℕ) (st : State) → 3856 ≤ length (now (table .entry)) → length (now (scratch .entry)) ≡ 2972 → length (now (block .entry)) ≤ 32768 → Bounded (length (now (block .entry))) p →
+    ensures { λ _. ⌜ (((3856 ≤ length (now (table .entry))) × (length (now (scratch .entry)) ≡ 2973) × (length (now (block .entry)) ≤ 32768) × Bounded (length (now (block .entry))) p → ⊥) → now (table .exit) ≡ now (table .entry)) × ((k : ℕ) (st : State) → 3856 ≤ length (now (table .entry)) → length (now (scratch .entry)) ≡ 2973 → length (now (block .entry)) ≤ 32768 → Bounded (length (now (block .entry))) p →
         Holding k (now (block .entry)) p (now (scratch .entry)) st → k ≤ 103 → now (table .exit) ≡ encode (finished (st .body)) (map spanOf (st .texts)) ++ drop 3856 (now (table .entry))) ⌝ }
 {
     if table.len() < Table::SIZE {

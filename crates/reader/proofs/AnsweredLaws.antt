@@ -33,12 +33,12 @@ use Rattle.reader.proofs.LentLaws.{same-short, long-over, beyond-over, 
 abbrev pub given : Given
 given = record { last = 103; totals = true }
 
-module _ (b : Bytes) (s : List ℕ) (w w′ : List ℤ) (j : Judged) (judges : Judges given b (replicate 2972 0) s w w′ j) where
-  scratch-long : length s ≡ 2972
-  scratch-long = judges .long ∙ length-replicate {A = ℕ} 2972 0
+module _ (b : Bytes) (s : List ℕ) (w w′ : List ℤ) (j : Judged) (judges : Judges given b (replicate 2973 0) s w w′ j) where
+  scratch-long : length s ≡ 2973
+  scratch-long = judges .long ∙ length-replicate {A = ℕ} 2973 0
 
   shown : ShowsJudged given b s w′ j
-  shown = judges .shows (record { low = omega arith; high = omega arith }) (sym (filled-nil 0 2972))
+  shown = judges .shows (record { low = omega arith; high = omega arith }) (sym (filled-nil 0 2973))
 
   stands : (p : Progress) → j ≡ J.Accepted p → Stands given b p s w′
   stands p e = subst (ShowsJudged given b s w′) e shown
@@ -82,14 +82,14 @@ module _ (b : Bytes) (l : Lent) (long : short l ≡ false) where
   read-long l′ r h f = as-refused 2 0 (omega arith) (long-told h) l′ r (f .0, clears l l′ long (f .1) (f .2))
 
   -- the table with the kept rows in its first 1,024 numbers
-  module _ (s : List ℕ) (w : List ℤ) (j : Judged) (h : length b ≤ 32768) (judges : Judges given b (replicate 2972 0) s (take 1024 (l .table)) w j) where
+  module _ (s : List ℕ) (w : List ℤ) (j : Judged) (h : length b ≤ 32768) (judges : Judges given b (replicate 2973 0) s (take 1024 (l .table)) w j) where
     abbrev pub during : Lent
     during = lent (w ++ drop 1024 (l .table)) (l .positions)
 
     room : length w ≡ 1024
     room = judges .stores ∙ length-take-le 1024 (l .table) (omega (arith, long-both l long .0))
 
-    pub judged-long : (length s ≡ 2972) × (3856 ≤ length (during .table))
+    pub judged-long : (length s ≡ 2973) × (3856 ≤ length (during .table))
     judged-long =
         let q = long-both l long in
         (scratch-long b s (take 1024 (l .table)) w j judges, omega (arith, long-over (l .table) w (omega (arith, q .0)) room, q .0))
@@ -121,7 +121,7 @@ module _ (b : Bytes) where
   unfolding checkOf
   check-long r h e = e ∙ sym (ap packedResult (long-told b ample ample-long h))
 
-  module _ (s : List ℕ) (w w′ : List ℤ) (j : Judged) (h : length b ≤ 32768) (judges : Judges given b (replicate 2972 0) s w w′ j) where
+  module _ (s : List ℕ) (w w′ : List ℤ) (j : Judged) (h : length b ≤ 32768) (judges : Judges given b (replicate 2973 0) s w w′ j) where
     lines-packed : (o : Outcome) → readLines (strict 103) start (cut b) ≡ o → packedResult (readInto ample (readingOf o)) ≡ checkOf 103 b
     unfolding checkOf
     lines-packed o e = sym (ap packedResult (lines-told b ample ample-long h o e))

@@ -56,12 +56,12 @@ clears l m long f g =
     ap (λ (x : List ℤ). lent x (m .positions)) (f (q .0)) ∙ ap (λ (x : List Float). lent (zeros 3856 ++ drop 3856 (l .table)) x) (g ∙ fronted-long (noughts 1024) (l .positions) (q .1))
 
 -- AN ACCEPTED BLOCK
-module _ (block : Bytes) (p : Progress) (s : List ℕ) (t t′ : List ℤ) (q q′ : List Float) (digits decimals rows : ℕ) (d : digits ≡ getD (take 9 (drop 2963 s)) 1 0) (e : decimals ≡ getD (take 9 (drop 2963 s)) 2 0)
-    (n : rows ≡ getD (take 9 (drop 2963 s)) 3 0) (x : Kept) (made : x ≡ factorFrom digits decimals) (f : q′ ≡ fronted (scaledTable (factorOf x) (rowsIn rows (take 1024 t))) q)
+module _ (block : Bytes) (p : Progress) (s : List ℕ) (t t′ : List ℤ) (q q′ : List Float) (digits decimals rows : ℕ) (d : digits ≡ getD (take 9 (drop 2964 s)) 1 0) (e : decimals ≡ getD (take 9 (drop 2964 s)) 2 0)
+    (n : rows ≡ getD (take 9 (drop 2964 s)) 3 0) (x : Kept) (made : x ≡ factorFrom digits decimals) (f : q′ ≡ fronted (scaledTable (factorOf x) (rowsIn rows (take 1024 t))) q)
     (g : (k : ℕ) (st : State) → length block ≤ 32768 → Bounded (length block) p → Holding k block p s st → k ≤ 103 → t′ ≡ encode (finished (st .body)) (map spanOf (st .texts)) ++ drop 3856 t) where
   module _ (k : ℕ) (st : State) (b : Bounded (length block) p) (h : Holding k block p s st) where
-    part : take 9 (drop 2963 s) ≡ geometryRegion (st .geometry)
-    part = ap (λ (x : List ℕ). take 9 (drop 2963 x)) (h .scratch) ∙ geometry-seated st (sized p st (b .counted) (h .listed)) .0
+    part : take 9 (drop 2964 s) ≡ geometryRegion (st .geometry)
+    part = ap (λ (x : List ℕ). take 9 (drop 2964 x)) (h .scratch) ∙ geometry-seated st (sized p st (b .counted) (h .listed)) .0
 
     digits-is : digits ≡ st .geometry .scale .digits
     unfolding geometryRegion

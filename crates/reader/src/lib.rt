@@ -53,7 +53,7 @@ fn row_count(rows: u32) -> usize
 
 // What an accepted block says, in the lent tables: the positions first, from the rows that the table still keeps, then the structure over them.
 fn accept(block: &[u8], p: Progress, scratch: &[u32], table: &mut [i32], positions: &mut [f64])
-    requires { ⌜ (length (now scratch) ≡ 2972) × (3856 ≤ length (now table)) ⌝ }
+    requires { ⌜ (length (now scratch) ≡ 2973) × (3856 ≤ length (now table)) ⌝ }
     ensures { λ _. ⌜ Accepts (now (block .entry)) p (now (scratch .entry)) (lent (now (table .entry)) (now (positions .entry))) (lent (now (table .exit)) (now (positions .exit))) ⌝ }
 {
     let region = &scratch[Scratch::FIRST_GEOMETRY..Scratch::SIZE];

@@ -1,4 +1,4 @@
--- The reader's scratch, 2,960 natural numbers in seven regions, and the part of a state that each shows. Assumes nothing.
+-- The reader's scratch, 2,973 natural numbers in eight regions, and the part of a state that each shows. Assumes nothing.
 use Prim.Native.Nat.{ℕ, zero, suc, _+_, _-_, _*_, max}
 use mathlib.Core.Path.{_≡_}
 use mathlib.Core.Bool.{Bool, true, false}

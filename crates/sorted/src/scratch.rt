@@ -17,7 +17,7 @@ impl Scratch {
 
     pub const PAIRS: usize = 2 * Table::PAIRS;
 
-    pub const LABELS: usize = 17;
+    pub const LABELS: usize = 18;
 
     pub const GEOMETRY: usize = 9;
 

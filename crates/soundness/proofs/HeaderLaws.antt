@@ -1,22 +1,23 @@
--- The table's first sixteen numbers: they are fine if and only if each count is that of its list in the table's structure, the texts' places and lengths are none below
--- zero, and the last three are 0. Serves document 01, "The structure table". Assumes nothing.
+-- The table's first thirteen numbers: they are fine if and only if each count is that of its list in the table's structure, and the texts' places and lengths are none
+-- below zero. The three numbers behind them: HandedLaws. Serves document 01, "The structure table". Assumes nothing.
 use Prim.Native.Nat.{ℕ, _≤_}
 use mathlib.Core.Path.{_≡_, refl, sym, ap, _∙_}
 use mathlib.Core.Bool.{true, false, not}
 use mathlib.Core.List.{List, [], _∷_, map}
 use native.Mathlib.Nat.{min-eq-right, min-le-left}
 use native.Mathlib.Omega.{arith}
-use lib.ListN.{length, take, drop, replicate, length-drop, length-map}
+use lib.ListN.{length, take, drop, length-drop, length-map}
 use lib.Seq.{length-take-le, getD-take}
 use lib.IntN.{ℤ, pos, negsuc, natAbs}
+use lib.Dec.{eqb}
 use Rattle.lists.specs.Lists.{all, flat, rowsFrom}
 use Rattle.lists.proofs.Bools.{torn, and-parts}
 use Rattle.lists.proofs.RegionLaws.{rows-length}
 use Rattle.format.specs.Structure.{Structure, ranging}
-use Rattle.format.specs.Table.{cell, countAt, counts, spanCells, derived, atomAt, markedAt, bondAt, spreadAt, atomRecords, decode, spanAt, spansOf}
+use Rattle.format.specs.Table.{cell, countAt, counts, spanCells, atomAt, markedAt, bondAt, spreadAt, atomRecords, decode, spanAt, spansOf}
 use Rattle.cells.specs.Signs.{negative}
-use Rattle.soundness.specs.Sounding.{numberAt, unused, countsFine, placesFine}
-use Rattle.soundness.proofs.SplitLaws.{Ranged, ranged-of, ranging-of, ranging-pos, unused-is}
+use Rattle.soundness.specs.Sounding.{numberAt, countsFine, placesFine}
+use Rattle.soundness.proofs.SplitLaws.{Ranged, ranged-of, ranging-of}
 use Rattle.soundness.proofs.AtomLaws.{records}
 use Rattle.soundness.proofs.ListLaws.{spread-many}
 
@@ -30,6 +31,7 @@ structureBy n b c r s p t = record {
   centres = rowsFrom 3 (markedAt 1) s (drop 2960 t);
   pairs = rowsFrom 4 (markedAt 2) p (drop 3344 t);
   id = cell t 6;
+  handed = eqb (cell t 13) 1;
 }
 
 abbrev pub shown : List ℤ → Structure
@@ -208,14 +210,3 @@ module _ (t : List ℤ) (long : 3856 ≤ length t) where
   pub places-back : flat spanCells (spansOf t) ≡ take 6 (drop 7 t) → placesFine t ≡ true
   unfolding placesFine
   places-back e = natural-back (take 6 (drop 7 t)) (sym spans-are ∙ e)
-
-  -- THE THREE ZEROS
-  pub zeros-there : (s : Structure) → unused (take 3 (drop 13 t)) ≡ true → derived s ≡ take 3 (drop 13 t)
-  unfolding derived
-  zeros-there s h =
-      let n : length (take 3 (drop 13 t)) ≡ 3 = length-take-le 3 (drop 13 t) (omega (arith, length-drop 13 t)) in
-      sym (unused-is (take 3 (drop 13 t)) h ∙ ap (λ (i : ℕ). replicate i (pos 0)) n)
-
-  pub zeros-back : (s : Structure) → derived s ≡ take 3 (drop 13 t) → unused (take 3 (drop 13 t)) ≡ true
-  unfolding derived unused all
-  zeros-back s e = ap unused (sym e) ∙ rw (ranging-pos 0 0 0 (omega arith) (omega arith))

@@ -2,7 +2,7 @@
 -- document 01, "The structure table". Assumes nothing.
 use Prim.Native.Nat.{ℕ, _*_, _≤_}
 use mathlib.Core.Path.{_≡_, refl}
-use mathlib.Core.Bool.{Bool, true}
+use mathlib.Core.Bool.{Bool, true, not}
 use mathlib.Core.List.{List, [], _++_, map}
 use native.Mathlib.Omega.{arith}
 use lib.ListN.{length, take, drop}
@@ -13,7 +13,7 @@ use Rattle.lists.specs.Lists.{all, flat, filled}
 use Rattle.lists.proofs.Bools.{and-parts}
 use Rattle.format.specs.Bytes.{within}
 use Rattle.format.specs.Labels.{ListOf, Bonds, Charges, Radicals, Centres, Pairs}
-use Rattle.format.specs.Structure.{Structure, rowsOf, lists, most, atomOk, rowsOk, wellFormed}
+use Rattle.format.specs.Structure.{Structure, rowsOf, lists, most, atomOk, rowsOk, handedTwice, wellFormed}
 use Rattle.format.specs.Reading.{Span}
 use Rattle.format.specs.Table.{base, width, atomCells, rowsPart, counts, spanCells, derived, encode}
 use Rattle.format.proofs.ByteLaws.{within-true, within-is}
@@ -27,6 +27,7 @@ pub record WellMade (k : ℕ) (s : Structure) : Type 0 where
   pub atoms : all (atomOk k) (s .atoms) ≡ true
   pub rows : (l : ListOf) → rowsTest l (length (s .atoms)) (most l) (rowsOf l s) ≡ true
   pub id : s .id ≤ 999999
+  pub handed : not (handedTwice s) ≡ true
 
 module _ (k : ℕ) (s : Structure) where
   abbrev test : ListOf → Bool
@@ -52,19 +53,20 @@ module _ (k : ℕ) (s : Structure) where
       let n : ℕ = length (s .atoms) in
       let a = and-parts (within 1 256 n) _ h in
       let b = and-parts (all (atomOk k) (s .atoms)) _ (a .1) in
-      let c = and-parts (all test lists) (leb (s .id) 999999) (b .1) in
+      let c = and-parts (all test lists) _ (b .1) in
+      let d = and-parts (leb (s .id) 999999) (not (handedTwice s)) (c .1) in
       let w = within-true 1 256 n (a .0) in
-      record { low = w .0; high = w .1; atoms = b .0; rows = each-list (c .0); id = leb-true (s .id) 999999 (c .1) }
+      record { low = w .0; high = w .1; atoms = b .0; rows = each-list (c .0); id = leb-true (s .id) 999999 (d .0); handed = d .1 }
 
   pub made-back : WellMade k s → wellFormed k s ≡ true
   unfolding wellFormed rowsOk
-  made-back f = rw (within-is 1 256 (length (s .atoms)) (f .low) (f .high), f .atoms, every-list (f .rows)) (le-leb (s .id) 999999 (f .id))
+  made-back f = rw (within-is 1 256 (length (s .atoms)) (f .low) (f .high), f .atoms, every-list (f .rows), le-leb (s .id) 999999 (f .id)) (f .handed)
 
 -- PART BY PART
 pub record Laid (s : Structure) (spans : List Span) (t : List ℤ) : Type 0 where
   pub counts-are : map pos (counts s) ≡ take 7 (drop 0 t)
   pub spans-are : flat spanCells spans ≡ take 6 (drop 7 t)
-  pub zeros-are : derived s ≡ take 3 (drop 13 t)
+  pub derived-are : derived s ≡ take 3 (drop 13 t)
   pub atoms-are : filled (pos 0) 1280 (atomCells 1 (s .charges) (s .radicals) (s .atoms)) ≡ take 1280 (drop 16 t)
   pub rows-are : (l : ListOf) → rowsPart s l ≡ take (width l * most l) (drop (base l) t)
 
@@ -97,7 +99,7 @@ module _ (s : Structure) (spans : List Span) (t : List ℤ) where
       let b = split t (flat spanCells spans) (derived s ++ (atomsPart ++ flat part lists)) 7 6 3843 six (omega arith) (a .1) in
       let c = split t (derived s) (atomsPart ++ flat part lists) 13 3 3840 refl (omega arith) (b .1) in
       let d = split t atomsPart (flat part lists) 16 1280 2560 m (omega arith) (c .1) in
-      record { counts-are = a .0; spans-are = b .0; zeros-are = c .0; atoms-are = d .0; rows-are = list-parts long h (d .1) }
+      record { counts-are = a .0; spans-are = b .0; derived-are = c .0; atoms-are = d .0; rows-are = list-parts long h (d .1) }
 
   lists-back : ((l : ListOf) → part l ≡ take (width l * most l) (drop (base l) t)) → flat part lists ≡ take 2560 (drop 1296 t)
   unfolding flat lists width most base
@@ -112,4 +114,4 @@ module _ (s : Structure) (spans : List Span) (t : List ℤ) where
   laid-back f =
       joined t (map pos (counts s)) (flat spanCells spans ++ (derived s ++ (atomsPart ++ flat part lists))) 0 7 3849 (f .counts-are)
       (joined t (flat spanCells spans) (derived s ++ (atomsPart ++ flat part lists)) 7 6 3843 (f .spans-are)
-      (joined t (derived s) (atomsPart ++ flat part lists) 13 3 3840 (f .zeros-are) (joined t atomsPart (flat part lists) 16 1280 2560 (f .atoms-are) (lists-back (f .rows-are)))))
+      (joined t (derived s) (atomsPart ++ flat part lists) 13 3 3840 (f .derived-are) (joined t atomsPart (flat part lists) 16 1280 2560 (f .atoms-are) (lists-back (f .rows-are)))))

@@ -9,6 +9,7 @@ pub mod RecordLaws
 pub mod AtomLaws
 pub mod ListLaws
 pub mod HeaderLaws
+pub mod HandedLaws
 pub mod LaidLaws
 pub mod RegionsLaws
 pub mod TestLaws

@@ -8,11 +8,11 @@ use native.Mathlib.Nat.{mul-suc}
 use native.Mathlib.Omega.{arith}
 use lib.ListN.{length, getD, take, drop, length-drop}
 use lib.Seq.{length-take-le}
-use lib.IntN.{ℤ, pos, negsuc}
+use lib.IntN.{ℤ, pos}
 use lib.Dec.{leb}
-use borrow.Author.Tests.{leb-true, eqb-true}
+use borrow.Author.Tests.{leb-true}
 use Rattle.lists.specs.Lists.{all, sameBy, flat, filled, rowsFrom}
-use Rattle.lists.proofs.Bools.{torn, both-ways, and-parts, and-both, eqb-same}
+use Rattle.lists.proofs.Bools.{both-ways, and-parts, and-both}
 use Rattle.lists.proofs.ListLaws.{all-at}
 use Rattle.lists.proofs.PartLaws.{filled-length}
 use Rattle.lists.proofs.PairLaws.{sameBy-eq, sameBy-refl}
@@ -22,7 +22,7 @@ use Rattle.format.specs.Rows.{Row}
 use Rattle.format.specs.Structure.{Atom, Structure, rowsOf, most, atomOk, wellFormed}
 use Rattle.format.specs.Table.{cell, base, width, rowWith, atomCells, rowCells, rowsPart, spanCells, encode, markedAt, bondAt, spreadAt, decode, spansOf, sameNumber, soundNumbers}
 use Rattle.soundness.specs.Numbered.{column, columnOf}
-use Rattle.soundness.specs.Sounding.{unused, headerFine, countsFine, placesFine, atomFine, atomsFine, recordKey, recordsFine, keyedFine, bondsFine, centresFine, pairsFine, valuesFine, chargesFine, radicalsFine, listsFine, regionsFine}
+use Rattle.soundness.specs.Sounding.{unused, headerFine, countsFine, placesFine, handedFine, atomFine, atomsFine, recordKey, recordsFine, keyedFine, bondsFine, centresFine, pairsFine, valuesFine, chargesFine, radicalsFine, listsFine, regionsFine}
 use Rattle.soundness.proofs.NumberedLaws.{column-at, column-length, row-back}
 use Rattle.soundness.proofs.InTurnLaws.{upTo}
 use Rattle.soundness.proofs.SplitLaws.{region-split, region-joined}
@@ -31,7 +31,8 @@ use Rattle.soundness.proofs.KeyedLaws.{cells-long}
 use Rattle.soundness.proofs.RecordLaws.{bonds-say, centres-say, pairs-say}
 use Rattle.soundness.proofs.AtomLaws.{records, atoms-there, atoms-back, columns-fine}
 use Rattle.soundness.proofs.ListLaws.{FineList, list-parts, list-test, keyed-region, region-keyed, charges-spread, radicals-spread, spread-many, spread-region, region-spread}
-use Rattle.soundness.proofs.HeaderLaws.{shown, decode-shown, atoms-many, Header, counts-parts, counts-both, header-counted, counts-there, counts-back, places-there, places-back, zeros-there, zeros-back}
+use Rattle.soundness.proofs.HeaderLaws.{shown, decode-shown, atoms-many, Header, counts-parts, counts-both, header-counted, counts-there, counts-back, places-there, places-back}
+use Rattle.soundness.proofs.HandedLaws.{number-equal, number-self, handed-there, derived-there, derived-back}
 use Rattle.soundness.proofs.LaidLaws.{WellMade, made-of, made-back, Laid, first-part, laid-of, laid-back}
 
 -- FIVE NUMBERS AN ATOM
@@ -146,9 +147,9 @@ module _ (k : ℕ) (t : List ℤ) (long : 3856 ≤ length t) (H : Header t long)
   abbrev region-of : ListOf → Type 0
   region-of l = FineList l n (most l) (rowsOf l s) × (rowsPart s l ≡ take (width l * most l) (drop (base l) t))
 
-  regions-there : placesFine t ≡ true → unused (take 3 (drop 13 t)) ≡ true → atomsFine k t ≡ true → ((l : ListOf) → region-of l) → WellMade k s × Laid s (spansOf t) t
+  regions-there : placesFine t ≡ true → (handedFine t ≡ true) × (unused (take 2 (drop 14 t)) ≡ true) → atomsFine k t ≡ true → ((l : ListOf) → region-of l) → WellMade k s × Laid s (spansOf t) t
   unfolding atomsFine
-  regions-there places zeros atoms f =
+  regions-there places handed atoms f =
       let p = and-parts eachAtom _ atoms in
       let a = atoms-fine (p .0) in (
         record {
@@ -157,11 +158,12 @@ module _ (k : ℕ) (t : List ℤ) (long : 3856 ≤ length t) (H : Header t long)
           atoms = a .0;
           rows = λ l. list-test l (length (s .atoms)) (most l) (rowsOf l s) (other-count l (most l) n (length (s .atoms)) (rowsOf l s) (sym listed) (f l .0));
           id = H .id .high-is;
+          handed = handed-there t (handed .0) .1;
         },
         record {
           counts-are = counts-there t long H;
           spans-are = places-there t long places;
-          zeros-are = zeros-there t long s zeros;
+          derived-are = derived-there t long (handed .0) (handed .1);
           atoms-are = region-joined t (atomCells 1 (s .charges) (s .radicals) (s .atoms)) 16 1280 (5 * n) cells-of within-atoms room-atoms (a .1) (p .1);
           rows-are = λ l. f l .1;
         },
@@ -209,7 +211,7 @@ module _ (k : ℕ) (t : List ℤ) (long : 3856 ≤ length t) (H : Header t long)
   unfolding headerFine
   regions-back w f =
       let a = atoms-found w f in (
-        rw (counts-both t long H, places-back t long (f .spans-are)) (zeros-back t long s (f .zeros-are)),
+        rw (counts-both t long H, places-back t long (f .spans-are)) (derived-back t long (f .derived-are) (w .handed)),
         a .1,
         lists-back (a .0) (list-found w f),
       )
@@ -235,16 +237,6 @@ module _ (k : ℕ) (t : List ℤ) (long : 3856 ≤ length t) (H : Header t long)
   shown-laid e = laid-of s (spansOf t) t long (six-long t) atoms-long part-long e
 
 -- THE TABLE'S NUMBERS
-number-equal : (x y : ℤ) → sameNumber x y ≡ true → x ≡ y
-number-equal (pos m) (pos i) h = ap pos (eqb-true m i h)
-number-equal (pos m) (negsuc i) h = torn false h refl
-number-equal (negsuc m) (pos i) h = torn false h refl
-number-equal (negsuc m) (negsuc i) h = ap negsuc (eqb-true m i h)
-
-number-self : (x : ℤ) → sameNumber x x ≡ true
-number-self (pos m) = eqb-same m
-number-self (negsuc m) = eqb-same m
-
 module _ (k : ℕ) (t : List ℤ) (long : 3856 ≤ length t) where
   fine-sound : regionsFine k t ≡ true → soundNumbers k t ≡ true
   unfolding regionsFine headerFine soundNumbers atomsFine
@@ -252,10 +244,11 @@ module _ (k : ℕ) (t : List ℤ) (long : 3856 ≤ length t) where
       let a = and-parts (headerFine t) _ h in
       let b = and-parts (atomsFine k t) (listsFine t) (a .1) in
       let c = and-parts (countsFine t) _ (a .0) in
-      let d = and-parts (placesFine t) (unused (take 3 (drop 13 t))) (c .1) in
+      let d = and-parts (placesFine t) _ (c .1) in
+      let g = and-parts (handedFine t) (unused (take 2 (drop 14 t))) (d .1) in
       let H : Header t long = counts-parts t long (c .0) in
       let A = and-parts (eachAtom k t long H) _ (b .0) in
-      let f = regions-there k t long H (d .0) (d .1) (b .0) (lists-there k t long H (A .0) (b .1)) in
+      let f = regions-there k t long H (d .0) g (b .0) (lists-there k t long H (A .0) (b .1)) in
       let e : decode t ≡ shown t = decode-shown t (header-counted t long H) in
       and-both (wellFormed k (decode t)) _ (ap (wellFormed k) e ∙ made-back k (shown t) (f .0))
       (ap (λ (x : Structure). sameBy sameNumber (encode x (spansOf t)) (take 3856 t)) e ∙ ap (λ (x : List ℤ). sameBy sameNumber x (take 3856 t)) (laid-back (shown t) (spansOf t) t (f .1))

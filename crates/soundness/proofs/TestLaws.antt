@@ -31,7 +31,7 @@ use Rattle.format.specs.Table.{cell}
 use Rattle.format.proofs.ByteLaws.{within-low}
 use Rattle.cells.specs.Signs.{negative}
 use Rattle.soundness.specs.declared.keyed.Ordered.{Ordered}
-use Rattle.soundness.specs.Sounding.{listOf, numberAt, unused, countsFine, placesFine, headerFine, atomFine, groupFine, markFine, keyIf, pairKey, atomsKey, recordKey, recordsFine, valueFine}
+use Rattle.soundness.specs.Sounding.{listOf, numberAt, unused, countsFine, placesFine, handedFine, headerFine, atomFine, groupFine, markFine, keyIf, pairKey, atomsKey, recordKey, recordsFine, valueFine}
 use Rattle.soundness.proofs.SplitLaws.{Ranged, ranged-of, ranging-pos, zero-is}
 
 -- A ROW OF TESTS
@@ -74,7 +74,19 @@ pub counts-is : (t : List ℤ) →
 unfolding countsFine
 counts-is t = refl
 
-pub header-is : (t : List ℤ) → (countsFine t && (all (λ z. not (negative z)) (take 6 (drop 7 t)) && unused (take 3 (drop 13 t)))) ≡ headerFine t
+pub handed-is : (t : List ℤ) → (ranging 0 0 (numberAt t 13) || (ranging 1 1 (numberAt t 13) && (eqb (cell t 4) 0 && eqb (cell t 5) 0))) ≡ handedFine t
+unfolding handedFine
+handed-is t = refl
+
+-- no row of the one list and of the other
+module _ (n c : ℕ) (e : n ≡ c) where
+  pub counted-some : (b : Bool) → (n ≡ 0 → ⊥) → false ≡ (eqb c 0 && b)
+  counted-some b h = sym (rw (ne-eqb c 0 (λ k. h (e ∙ k))))
+
+  pub counted-none : n ≡ 0 → (m d : ℕ) → m ≡ d → eqb m 0 ≡ (eqb c 0 && eqb d 0)
+  counted-none h m d f = rw (← e, h, f)
+
+pub header-is : (t : List ℤ) → (countsFine t && (all (λ z. not (negative z)) (take 6 (drop 7 t)) && (handedFine t && unused (take 2 (drop 14 t))))) ≡ headerFine t
 unfolding headerFine placesFine
 header-is t = refl
 

@@ -1,11 +1,11 @@
 -- Soundness of a table's numbers region by region, as the code tests it: document 01, "The structure table", and "Refusal numbers" ("a count, range, order, clash or
--- zero rule broken"). That all regions together are the definition's soundness is proved in proofs/RegionsLaws. Assumes nothing.
+-- zero rule broken"); document 02, L4 (number 13). That all regions together are the definition's soundness is proved in proofs/RegionsLaws. Assumes nothing.
 use Prim.Native.Nat.{ℕ, suc, _+_, _-_, _*_}
 use mathlib.Core.Bool.{Bool, true, false, _&&_, _||_, not}
 use mathlib.Core.List.{List, _∷_}
 use lib.ListN.{getD, take, drop}
 use lib.IntN.{ℤ, pos, natAbs}
-use lib.Dec.{ltb}
+use lib.Dec.{eqb, ltb}
 use Rattle.lists.specs.Lists.{all, rowsFrom}
 use Rattle.lists.specs.Order.{ascends}
 use Rattle.format.specs.Bytes.{within}
@@ -36,9 +36,13 @@ countsFine t =
 unfoldable pub placesFine : List ℤ → Bool
 placesFine t = all (λ z. not (negative z)) (take 6 (drop 7 t))
 
--- "13 to 15 are 0"
+-- "A sound table with 13 set has no centres and no pairs." (document 02, L4): the number is 0, or it is 1 and neither list has a row
+unfoldable pub handedFine : List ℤ → Bool
+handedFine t = ranging 0 0 (numberAt t 13) || (ranging 1 1 (numberAt t 13) && (eqb (cell t 4) 0 && eqb (cell t 5) 0))
+
+-- the two numbers behind that one are 0
 unfoldable pub headerFine : List ℤ → Bool
-headerFine t = countsFine t && (placesFine t && unused (take 3 (drop 13 t)))
+headerFine t = countsFine t && (placesFine t && (handedFine t && unused (take 2 (drop 14 t))))
 
 -- an atom's record: "element, mass (0 none), implied hydrogens, charge row, radical row (from 1; 0 none)", with so many elements and rows
 unfoldable pub atomFine : (k charges radicals : ℕ) → List ℤ → Bool

@@ -1,15 +1,17 @@
-// The table's first sixteen numbers: document 01, "The structure table" ("atoms, bonds, charge rows, radical rows, centres, pairs, block id"; "13 to 15 are 0").
+// The table's first sixteen numbers: document 01, "The structure table" ("atoms, bonds, charge rows, radical rows, centres, pairs, block id"; "13 to 15 are 0"), and
+// document 02, L4 ("A sound table with 13 set has no centres and no pairs.").
 ghost use mathlib.Core.Path.{_≡_};
 ghost use Prim.Native.Nat.{_≤_};
 ghost use lib.ListN.{length};
-ghost use Rattle.soundness.specs.Sounding.{countsFine, headerFine};
+ghost use Rattle.soundness.specs.Sounding.{countsFine, handedFine, headerFine};
 use crate::parts::all_zero;
 use crate::parts::none_negative;
+use cells::cell;
 use cells::ranges;
 use format::Table;
 
-// Where the numbers behind the texts' places start: "13 to 15 are 0".
-const FIRST_DERIVED: usize = Table::FIRST_TEXT + 2 * Table::TEXTS;
+// Where the two unused numbers behind the one that says handed start.
+const FIRST_UNUSED: usize = Table::HANDED + 1;
 
 // Whether each count is within its list's limit: one atom at least, the id "0 none" to 999,999.
 fn counts_fine(table: &[i32]) -> bool
@@ -36,7 +38,23 @@ fn counts_fine(table: &[i32]) -> bool
     ranges(table, Table::BLOCK_ID, 0, 999999)
 }
 
-// Whether the counts, the texts' places and lengths, and the three zeros are fine.
+// Whether the molecule is not handed as a whole, or is so and has neither a centre nor a pair.
+fn handed_fine(table: &[i32]) -> bool
+    ensures { λ r. ⌜ r ≡ handedFine (now (table .entry)) ⌝ }
+{
+    if ranges(table, Table::HANDED, 0, 0) {
+        return true;
+    }
+    if !ranges(table, Table::HANDED, 1, 1) {
+        return false;
+    }
+    if cell(table, Table::CENTRE_COUNT) != 0 {
+        return false;
+    }
+    cell(table, Table::PAIR_COUNT) == 0
+}
+
+// Whether the counts, the texts' places and lengths, the number that says handed, and the two zeros behind it are fine.
 pub fn header_fine(table: &[i32]) -> bool
     requires { ⌜ 3856 ≤ length (now table) ⌝ }
     ensures { λ r. ⌜ r ≡ headerFine (now (table .entry)) ⌝ }
@@ -44,8 +62,11 @@ pub fn header_fine(table: &[i32]) -> bool
     if !counts_fine(table) {
         return false;
     }
-    if !none_negative(&table[Table::FIRST_TEXT..FIRST_DERIVED]) {
+    if !none_negative(&table[Table::FIRST_TEXT..Table::HANDED]) {
         return false;
     }
-    all_zero(&table[FIRST_DERIVED..Table::FIRST_ATOM])
+    if !handed_fine(table) {
+        return false;
+    }
+    all_zero(&table[FIRST_UNUSED..Table::FIRST_ATOM])
 }

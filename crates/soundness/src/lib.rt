@@ -9,7 +9,7 @@ use format::Table;
 use texts::texts_fine;
 
 mod atoms; // atoms.rt: the atoms' records
-mod header; // header.rt: the counts, the texts' places, the three zeros
+mod header; // header.rt: the counts, the texts' places, handed as a whole, the zeros behind
 mod keyed; // keyed.rt: bonds, centres and pairs
 mod numbered; // numbered.rt: the order of charge and radical rows
 mod numbers; // numbers.rt: all regions

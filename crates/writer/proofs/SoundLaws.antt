@@ -71,9 +71,9 @@ module _ (t : List ℤ) (b : Bytes) (h : sound 103 t b ≡ true) where
   parts : (all (atomOk 103) (decode t .atoms) ≡ true) × (all (rowsOk (length (decode t .atoms)) (decode t)) lists ≡ true)
   unfolding wellFormed
   parts =
-      let p = and-parts (within 1 256 (length (decode t .atoms))) (all (atomOk 103) (decode t .atoms) && (all (rowsOk (length (decode t .atoms)) (decode t)) lists && leb (decode t .id) 999999)) well in
-      let q = and-parts (all (atomOk 103) (decode t .atoms)) (all (rowsOk (length (decode t .atoms)) (decode t)) lists && leb (decode t .id) 999999) (p .1) in
-      (q .0, and-parts (all (rowsOk (length (decode t .atoms)) (decode t)) lists) (leb (decode t .id) 999999) (q .1) .0)
+      let p = and-parts (within 1 256 (length (decode t .atoms))) _ well in
+      let q = and-parts (all (atomOk 103) (decode t .atoms)) _ (p .1) in
+      (q .0, and-parts (all (rowsOk (length (decode t .atoms)) (decode t)) lists) _ (q .1) .0)
 
   pub sound-printable : (n : ℕ) (keys counts : List ℕ) → Gathers t n keys counts → Printable t n keys counts
   sound-printable n keys counts g = record {

@@ -7,7 +7,7 @@ use super::structures::structure;
 use crate::independent::coordinates::CoordinateRow;
 use crate::independent::table::{Pair, Spread, Structure};
 
-/// A block that is accepted; some have coordinates.
+/// A block that is accepted; some have coordinates, some are helical.
 pub fn sound_block(random: &mut Random) -> Vec<u8> {
     let mut content = structure(random);
     if random.chance(12) {
@@ -52,6 +52,7 @@ enum Record {
     Radical,
     Stereocenter,
     Stereopair,
+    Stereomolecule,
     MaxXyz,
     XyzFactor,
     Xyz,
@@ -71,11 +72,16 @@ fn records(spelling: &mut Spelling, content: &Structure) -> Vec<Record> {
     if !content.radicals.is_empty() || spelling.random.chance(10) {
         shell.push(Record::Radical);
     }
-    if !content.centres.is_empty() || spelling.random.chance(10) {
+    // the labels of centres and pairs stand beside the YES too, as long as they have no rows
+    let empty = if content.helical { 25 } else { 10 };
+    if !content.centres.is_empty() || spelling.random.chance(empty) {
         shell.push(Record::Stereocenter);
     }
-    if !content.pairs.is_empty() || spelling.random.chance(10) {
+    if !content.pairs.is_empty() || spelling.random.chance(empty) {
         shell.push(Record::Stereopair);
+    }
+    if content.helical {
+        shell.push(Record::Stereomolecule);
     }
     if content.coordinates.most.is_some() {
         shell.extend([Record::MaxXyz, Record::XyzFactor, Record::Xyz]);
@@ -92,6 +98,8 @@ fn spell_record(spelling: &mut Spelling, content: &Structure, record: Record) {
     match record {
         Record::Origin => spelling.text_record("ORIGIN"),
         Record::Owner => spelling.text_record("OWNER"),
+        Record::MaxXyz | Record::XyzFactor | Record::Xyz => spell_coordinates(spelling, content, record),
+        Record::Stereomolecule => spelling.helical(),
         Record::BlockId => {
             spelling.label("BLOCK_ID");
             let number = spelling.number(content.block_id);
@@ -102,30 +110,33 @@ fn spell_record(spelling: &mut Spelling, content: &Structure, record: Record) {
             let formula = spelling.formula(&content.atoms);
             spelling.value(&formula);
         }
-        Record::Atomlist => {
-            let rows = atom_rows(spelling, content);
-            spelling.list("ATOMLIST", rows);
+        Record::Atomlist
+        | Record::Bondlist
+        | Record::Charge
+        | Record::Radical
+        | Record::Stereocenter
+        | Record::Stereopair => {
+            let (name, rows) = list_of(spelling, content, record);
+            spelling.list(name, rows);
         }
-        Record::Bondlist => {
-            let rows = bond_rows(spelling, content);
-            spelling.list("BONDLIST", rows);
-        }
-        Record::Charge => {
-            let rows = spread_rows(spelling, &content.charges, true);
-            spelling.list("CHARGE", rows);
-        }
-        Record::Radical => {
-            let rows = spread_rows(spelling, &content.radicals, false);
-            spelling.list("RADICAL", rows);
-        }
-        Record::Stereocenter => {
-            let rows = centre_rows(spelling, content);
-            spelling.list("STEREOCENTER", rows);
-        }
-        Record::Stereopair => {
-            let rows = pair_rows(spelling, &content.pairs);
-            spelling.list("STEREOPAIR", rows);
-        }
+    }
+}
+
+/// The label and the rows of a list; STEREOPAIR is the last of them.
+fn list_of(spelling: &mut Spelling, content: &Structure, record: Record) -> (&'static str, Rows) {
+    match record {
+        Record::Atomlist => ("ATOMLIST", atom_rows(spelling, content)),
+        Record::Bondlist => ("BONDLIST", bond_rows(spelling, content)),
+        Record::Charge => ("CHARGE", spread_rows(spelling, &content.charges, true)),
+        Record::Radical => ("RADICAL", spread_rows(spelling, &content.radicals, false)),
+        Record::Stereocenter => ("STEREOCENTER", centre_rows(spelling, content)),
+        _ => ("STEREOPAIR", pair_rows(spelling, &content.pairs)),
+    }
+}
+
+/// The three records of coordinates; XYZ is the last of them.
+fn spell_coordinates(spelling: &mut Spelling, content: &Structure, record: Record) {
+    match record {
         Record::MaxXyz => {
             spelling.label_among(&["MAX_XYZ", "MAX_XYZ", "max-xyz", "MAXXYZ", "Max XYZ"]);
             let most = spelling.number(content.coordinates.most.unwrap_or_default());
@@ -136,7 +147,7 @@ fn spell_record(spelling: &mut Spelling, content: &Structure, record: Record) {
             let factor = content.coordinates.factor.map(|factor| spelling.factor(factor));
             spelling.value(&factor.unwrap_or_default());
         }
-        Record::Xyz => {
+        _ => {
             let rows = coordinate_rows(spelling, &content.coordinates.rows);
             let name = spelling.random.pick(&["XYZ", "XYZ", "XYZ", "xyz", "X_Y-Z"]);
             spelling.list(name, rows);

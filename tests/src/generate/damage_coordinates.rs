@@ -3,8 +3,9 @@
 //! by its label in any spelling.
 
 use super::damage::{chosen, lines, Shares};
+use super::damage_records::{moved_record, record, with_other_formula, with_value};
 use super::random::Random;
-use crate::independent::lines::{label, value, Label};
+use crate::independent::lines::Label;
 use crate::independent::reading::structure;
 
 /// Each kind of damage with its share.
@@ -16,7 +17,7 @@ const DAMAGES: Shares<10> = [
     (12, other_order),
     (14, dropped_labels),
     (24, most_below),
-    (6, moved_record),
+    (6, moved),
     (3, formula_too),
     (3, end_with_value),
 ];
@@ -27,24 +28,6 @@ pub fn damaged_coordinates(random: &mut Random, block: &[u8]) -> Vec<u8> {
 }
 
 const RECORDS: [Label; 3] = [Label::MaxXyz, Label::XyzFactor, Label::Xyz];
-
-/// The lines of a record: its label line's place and the place behind its last line.
-fn record(lines: &[Vec<u8>], of: Label) -> Option<(usize, usize)> {
-    let start = lines.iter().position(|line| label(line) == Some(of))?;
-    let below = lines[start + 1..].iter().position(|line| line.starts_with(b"##"));
-    Some((start, below.map_or(lines.len(), |below| start + 1 + below)))
-}
-
-/// The block with the value on a record's label line replaced.
-fn with_value(block: &[u8], of: Label, new: &str) -> Vec<u8> {
-    let mut lines = lines(block);
-    if let Some((start, _)) = record(&lines, of) {
-        let line = &mut lines[start];
-        line.truncate(line.len() - value(line).len());
-        line.extend(format!(" {new}\n").bytes());
-    }
-    lines.concat()
-}
 
 /// MAX_XYZ of another shape, empty, with a further row, at an end.
 fn other_most(random: &mut Random, block: &[u8]) -> Vec<u8> {
@@ -200,26 +183,15 @@ fn most_below(random: &mut Random, block: &[u8]) -> Vec<u8> {
 }
 
 /// One of the three records again, or before a record of the core.
-fn moved_record(random: &mut Random, block: &[u8]) -> Vec<u8> {
-    let mut lines = lines(block);
-    let Some((start, end)) = record(&lines, RECORDS[random.below(3)]) else { return block.to_vec() };
-    let moved: Vec<Vec<u8>> =
-        if random.chance(50) { lines[start..end].to_vec() } else { lines.drain(start..end).collect() };
-    let starts: Vec<usize> = (1..lines.len()).filter(|&index| lines[index].starts_with(b"##")).collect();
-    let place = if starts.is_empty() { lines.len() } else { starts[random.below(starts.len())] };
-    lines.splice(place..place, moved);
-    lines.concat()
+fn moved(random: &mut Random, block: &[u8]) -> Vec<u8> {
+    let of = RECORDS[random.below(3)];
+    moved_record(random, block, of)
 }
 
 /// A formula that does not agree, and 41 or 42 on the same END line.
 fn formula_too(random: &mut Random, block: &[u8]) -> Vec<u8> {
     let other = if random.chance(50) { dropped_labels(random, block) } else { most_below(random, block) };
-    let mut lines = lines(&other);
-    if let Some((start, _)) = record(&lines, Label::Molform) {
-        let equals = lines[start].iter().position(|&byte| byte == b'=').map_or(0, |equals| equals + 1);
-        lines[start].splice(equals..equals, b" He ".iter().copied());
-    }
-    lines.concat()
+    with_other_formula(&other)
 }
 
 /// A value on the END line, and 41 or 42 there.

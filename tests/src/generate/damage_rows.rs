@@ -98,6 +98,7 @@ pub fn clashing_row(random: &mut Random, block: &[u8]) -> Vec<u8> {
         ("STEREOPAIR", "1 1 P"),
         ("STEREOPAIR", "1 2 0\n1 2 0"),
         ("STEREOPAIR", "1 2 P\n2 1 P"),
+        ("STEREOMOLECULE", "YES"),
     ];
     with_rows(random, block, &rows)
 }

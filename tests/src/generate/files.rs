@@ -1,7 +1,9 @@
-//! Transfer files of no to eight blocks, whole, damaged, open or nested, with stray runs between.
+//! Transfer files of no to eight blocks, whole, damaged, open or nested, with stray runs between; and
+//! files of helical blocks alone.
 
 use super::blocks::sound_block;
 use super::damage::damaged;
+use super::helical::helical_block;
 use super::neon::NEON;
 use super::random::Random;
 
@@ -45,6 +47,18 @@ pub fn file(random: &mut Random) -> Vec<u8> {
     }
     if random.chance(10) {
         file = damaged(random, &file);
+    }
+    file
+}
+
+/// A transfer file of two to six blocks with STEREOMOLECULE, with stray runs between.
+pub fn helical_file(random: &mut Random) -> Vec<u8> {
+    let mut file = Vec::new();
+    for _ in 0..2 + random.below(5) {
+        file.extend(helical_block(random));
+        if random.chance(30) {
+            file.extend(stray(random));
+        }
     }
     file
 }

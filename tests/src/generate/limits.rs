@@ -3,6 +3,7 @@
 
 use super::crowded::{each_atom, two_ends, Crowded};
 use super::limits_coordinates::coordinate_limits;
+use super::limits_helical::helical_limits;
 use super::neighbours::{neighbours, whole_blocks};
 use super::neon::NEON;
 
@@ -18,6 +19,7 @@ pub fn limit_blocks() -> Vec<(String, Vec<u8>)> {
     cases.extend(neighbours());
     cases.extend(whole_blocks());
     cases.extend(coordinate_limits());
+    cases.extend(helical_limits());
     cases
 }
 

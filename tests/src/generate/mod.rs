@@ -6,11 +6,15 @@ pub mod coordinates;
 pub mod crowded;
 pub mod damage;
 mod damage_coordinates;
+mod damage_helical;
+mod damage_records;
 mod damage_rows;
 pub mod extremes;
 pub mod files;
+pub mod helical;
 pub mod limits;
 pub mod limits_coordinates;
+pub mod limits_helical;
 pub mod neighbours;
 pub mod neon;
 pub mod random;
@@ -23,16 +27,19 @@ pub use blocks::sound_block;
 pub use coordinates::coordinate_block;
 pub use damage::damaged;
 pub use extremes::extreme_case;
-pub use files::file;
+pub use files::{file, helical_file};
+pub use helical::{helical_block, helical_table_case};
 pub use limits::limit_blocks;
 pub use random::Random;
 pub use tables::{table_case, TableCase};
 
 /// A block of any kind, sound or damaged, mostly small; every refusal from 3 to 17, 41 and 42 come
-/// often. About a quarter has coordinates.
+/// often. About a quarter has coordinates, and about a fifth STEREOMOLECULE.
 pub fn block(random: &mut Random) -> Vec<u8> {
-    if random.chance(15) {
-        return coordinate_block(random);
+    match random.below(100) {
+        0..=14 => return coordinate_block(random),
+        15..=21 => return helical_block(random),
+        _ => {}
     }
     match random.below(100) {
         0..=29 => sound_block(random),

@@ -15,10 +15,11 @@ pub struct Spelling<'a> {
     noise: usize,
 }
 
-const SKIPPED: [&str; 12] = [
+const SKIPPED: [&str; 13] = [
     "DATE",
     "TIME",
-    "STEREOMOLECULE",
+    "STEREOMOLECULES",
+    "STEREO_MOLECUL",
     "MAX_RASTER",
     "XY_RASTER",
     "XYZ_SOURCE",
@@ -29,8 +30,17 @@ const SKIPPED: [&str; 12] = [
     "",
     "#END",
 ];
-const WORDS: [&str; 14] =
-    ["a", "acid", "of", "3.7", "$$", "$", "=", "##", "#", "x=y", "1 Ne", "END", "~", "bench-4"];
+const WORDS: [&str; 15] =
+    ["a", "acid", "of", "3.7", "$$", "$", "=", "##", "#", "x=y", "1 Ne", "END", "~", "bench-4", "YES"];
+const HELICAL: [&str; 7] = [
+    "STEREOMOLECULE",
+    "STEREOMOLECULE",
+    "Stereo Molecule",
+    "stereo-molecule",
+    "STEREO_MOLECULE",
+    "stereo/Molecule",
+    "-Stereo--Molecule_",
+];
 
 impl<'a> Spelling<'a> {
     pub fn new(random: &'a mut Random) -> Self {
@@ -101,6 +111,28 @@ impl<'a> Spelling<'a> {
         }
         self.blanks();
         self.bytes.extend(value.bytes());
+        self.end_line();
+        while self.noisy() {
+            self.end_line();
+        }
+    }
+
+    /// STEREOMOLECULE in one of its spellings with its YES: on the label line, on the next, or behind
+    /// blank lines and comments.
+    pub fn helical(&mut self) {
+        self.label_among(&HELICAL);
+        if self.random.chance(50) {
+            self.value("YES");
+            return;
+        }
+        self.end_line();
+        while self.random.chance(40) {
+            self.bytes
+                .extend(self.random.pick(&["", " ", "\t", "\r", "$$", "$$ a helix", " $$ YES"]).bytes());
+            self.bytes.extend(self.line_end.bytes());
+        }
+        self.blanks();
+        self.bytes.extend(b"YES");
         self.end_line();
         while self.noisy() {
             self.end_line();

@@ -1,4 +1,5 @@
-//! Random structures within the limits, mostly of few atoms: what sound blocks and tables hold.
+//! Random structures within the limits, mostly of few atoms: what sound blocks and tables hold. About a
+//! seventh of them is helical, and has no centres and no pairs then.
 
 use super::random::Random;
 use crate::independent::table::{Atom, Bond, Centre, Pair, Spread, Structure};
@@ -32,7 +33,15 @@ pub fn structure(random: &mut Random) -> Structure {
     if random.chance(35) {
         made.block_id = *random.pick(&[&1, &7, &42, &4711, &999_999]);
     }
+    if random.chance(14) {
+        made = made_helical(made);
+    }
     made
+}
+
+/// A structure with the YES, and so without its centres and pairs.
+pub fn made_helical(made: Structure) -> Structure {
+    Structure { helical: true, centres: Vec::new(), pairs: Vec::new(), ..made }
 }
 
 fn atom(random: &mut Random) -> Atom {

@@ -4,7 +4,7 @@
 use super::blocks::sound_block;
 use super::random::Random;
 use super::structures::structure;
-use crate::independent::table::{laid_out, Structure, LONGEST_BLOCK, NUMBERS};
+use crate::independent::table::{laid_out, Structure, HELICAL_AT, LONGEST_BLOCK, NUMBERS};
 use crate::independent::{read_table, write};
 
 /// A table, the bytes its texts stand in, and the length of the buffer.
@@ -66,7 +66,12 @@ pub fn sound_table(random: &mut Random) -> (Vec<i32>, Vec<u8>) {
         assert_eq!(answer.number, 0, "a sound block is refused: {}", block.escape_ascii());
         return (table, block);
     }
-    let mut content = structure(random);
+    let content = structure(random);
+    placed_table(random, content)
+}
+
+/// The table of a structure with texts put into bytes, and these bytes.
+pub(super) fn placed_table(random: &mut Random, mut content: Structure) -> (Vec<i32>, Vec<u8>) {
     let texts = place_texts(random, &mut content);
     (laid_out(&content), texts)
 }
@@ -114,7 +119,7 @@ fn place_texts(random: &mut Random, content: &mut Structure) -> Vec<u8> {
 }
 
 /// Makes the form about as long as allowed, or longer, by long texts that may coincide.
-fn lengthen(random: &mut Random, table: &mut [i32], texts: &mut Vec<u8>) {
+pub(super) fn lengthen(random: &mut Random, table: &mut [i32], texts: &mut Vec<u8>) {
     let long = random.pick(&[&11_000, &16_500, &33_000]);
     let start = texts.len() as i32;
     texts.extend(std::iter::repeat_n(b'a', *long));
@@ -135,13 +140,14 @@ fn lengthen(random: &mut Random, table: &mut [i32], texts: &mut Vec<u8>) {
 
 /// One disturbance of the table or its texts.
 fn disturb(random: &mut Random, table: &mut [i32], texts: &mut Vec<u8>) {
-    match random.below(8) {
+    match random.below(9) {
         0 | 1 => disturb_used(random, table),
         2 => disturb_head(random, table),
         3 => table[random.below(NUMBERS)] = extreme(random),
         4 => swap_rows(random, table),
         5 => disturb_span(random, table, texts.len()),
         6 => disturb_text_bytes(random, table, texts),
+        7 => table[HELICAL_AT] = *random.pick(&[&1, &1, &1, &2, &-1, &0, &i32::MIN, &i32::MAX]),
         _ => disturb_behind(random, table),
     }
 }

@@ -1,13 +1,25 @@
-//! Blocks as programs write them: what the benchmark reads. Typical ones of 6 to 24 atoms, ones with
-//! coordinates, the largest, and the orders and rows that cost most.
+//! Blocks as programs write them: what the benchmark reads. Typical ones of 6 to 24 atoms, ones that are
+//! handed as a whole, ones with coordinates, the largest, and the orders and rows that cost most.
 
 use super::crowded::{each_atom, two_ends, Crowded};
 use super::random::Random;
+use super::structures::made_helical;
 use crate::independent::table::{laid_out, Atom, Bond, Centre, Spread, Structure, LONGEST_BLOCK};
 use crate::independent::write;
 
 /// A block of 6 to 24 atoms in the written form: a chain with branches and rings, mostly of carbon.
 pub fn typical_block(random: &mut Random) -> Vec<u8> {
+    let content = typical_structure(random);
+    written(random, content)
+}
+
+/// Such a block with the YES of STEREOMOLECULE, and so without a centre.
+pub fn typical_helical_block(random: &mut Random) -> Vec<u8> {
+    let content = typical_structure(random);
+    written(random, made_helical(content))
+}
+
+fn typical_structure(random: &mut Random) -> Structure {
     let count = random.between(6, 24);
     let mut content =
         Structure { block_id: random.between(0, 1) * random.between(1, 999_999), ..Structure::default() };
@@ -21,7 +33,7 @@ pub fn typical_block(random: &mut Random) -> Vec<u8> {
         let centre = random.between(1, count);
         content.centres = vec![Centre { atom: centre, descriptor: random.between(1, 2), group: 0 }];
     }
-    written(random, content)
+    content
 }
 
 fn atom(random: &mut Random) -> Atom {

@@ -46,7 +46,7 @@ pub fn is_allowed(byte: u8) -> bool {
     byte == 9 || byte == 10 || byte == 13 || (32..=126).contains(&byte)
 }
 
-/// The sixteen known labels, and all others in one.
+/// The seventeen known labels, and all others in one.
 #[derive(Clone, Copy, PartialEq, Eq, Debug)]
 pub enum Label {
     Title,
@@ -60,6 +60,7 @@ pub enum Label {
     Radical,
     Stereocenter,
     Stereopair,
+    Stereomolecule,
     MaxXyz,
     XyzFactor,
     Xyz,
@@ -71,7 +72,7 @@ pub enum Label {
 use Label::*;
 
 /// The known labels as they stand after the change for comparison.
-const KNOWN: [(Label, &[u8]); 16] = [
+const KNOWN: [(Label, &[u8]); 17] = [
     (Title, b"TITLE"),
     (JcampCs, b"JCAMPCS"),
     (Origin, b"ORIGIN"),
@@ -83,6 +84,7 @@ const KNOWN: [(Label, &[u8]); 16] = [
     (Radical, b"RADICAL"),
     (Stereocenter, b"STEREOCENTER"),
     (Stereopair, b"STEREOPAIR"),
+    (Stereomolecule, b"STEREOMOLECULE"),
     (MaxXyz, b"MAXXYZ"),
     (XyzFactor, b"XYZFACTOR"),
     (Xyz, b"XYZ"),
@@ -148,14 +150,15 @@ pub fn text(block: &[u8], label_line: &Line) -> (usize, usize) {
 }
 
 /// The labels that must follow a known one: "in this order; RADICAL, STEREOCENTER, STEREOPAIR in
-/// any order after those; BLOCK_ID after JCAMP-CS; END last", and by request L2 "MAX_XYZ,
-/// XYZ_FACTOR and XYZ after the core, in any order with the other shell labels".
+/// any order after those; BLOCK_ID after JCAMP-CS; END last"; by request L2 "MAX_XYZ, XYZ_FACTOR and
+/// XYZ after the core, in any order with the other shell labels", and by request L4 STEREOMOLECULE
+/// "after the core, in any order with RADICAL".
 pub fn must_follow(label: Label) -> Vec<Label> {
     let core = [Title, JcampCs, Origin, Owner, Molform, Atomlist, Bondlist, Charge];
     let mut followers = Vec::new();
     if let Some(position) = core.iter().position(|&one| one == label) {
         followers.extend_from_slice(&core[position + 1..]);
-        followers.extend([Radical, Stereocenter, Stereopair, MaxXyz, XyzFactor, Xyz]);
+        followers.extend([Radical, Stereocenter, Stereopair, Stereomolecule, MaxXyz, XyzFactor, Xyz]);
     }
     if label == Title || label == JcampCs {
         followers.push(BlockId);

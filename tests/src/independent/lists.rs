@@ -1,5 +1,6 @@
 //! The rules of each list over what was read before: document 01, "Rows" and "Refusal numbers" 9
-//! to 14. Each function answers the row's values, or every refusal number the row breaks.
+//! to 14, and request L4 for the one row of STEREOMOLECULE. Each function answers the row's values, or
+//! every refusal number the row breaks.
 
 use super::elements;
 use super::rows;
@@ -132,4 +133,14 @@ pub fn pair(fields: &[&[u8]], atoms: &[Atom], pairs: &[Pair]) -> Result<Pair, Br
         broken.push(14);
     }
     sound(pair, broken)
+}
+
+/// STEREOMOLECULE: "its only value is `YES`", and "another value or a second row 9". Where the word
+/// stands already, any row is a second one, the word again too.
+pub fn helical(fields: &[&[u8]], stands_already: bool) -> Result<(), Broken> {
+    if fields == [b"YES"] && !stands_already {
+        Ok(())
+    } else {
+        Err(vec![9])
+    }
 }

@@ -1,5 +1,5 @@
-//! The independent reader: document 01 and request L2 read line by line, every broken rule of a line
-//! collected, the least of them answered. Nothing here is shared with the definitions or the proved
+//! The independent reader: document 01 and requests L2 and L4 read line by line, every broken rule of a
+//! line collected, the least of them answered. Nothing here is shared with the definitions or the proved
 //! code.
 
 pub mod cases;

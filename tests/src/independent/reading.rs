@@ -1,7 +1,7 @@
 //! Reading one block: document 01, "Lines and labels" (order), "Rows" (version, BLOCK_ID, END) and
-//! "Refusal numbers"; request L2 (the three records of coordinates, the position table, 41 and 42). On
-//! each line every broken refusal number is collected; the earliest line with one decides, by its
-//! least.
+//! "Refusal numbers"; request L2 (the three records of coordinates, the position table, 41 and 42);
+//! request L4 (STEREOMOLECULE). On each line every broken refusal number is collected; the earliest
+//! line with one decides, by its least.
 
 use super::coordinates::{self, FLOATS};
 use super::formula::{self, Totals};
@@ -197,8 +197,9 @@ impl<'a> Reading<'a> {
         vec![]
     }
 
-    /// The END line: a record missing (8), a value (9), formula and atoms different (15), "one or two
-    /// of the three labels present without the rest" (41), a value above MAX_XYZ (42).
+    /// The END line: a record missing (8), a value (9), STEREOMOLECULE without one (9), "YES beside any
+    /// centre or pair row" (13), formula and atoms different (15), "one or two of the three labels
+    /// present without the rest" (41), a value above MAX_XYZ (42).
     fn broken_at_end(&self, fields: &[&[u8]]) -> Broken {
         let mut broken = Vec::new();
         let needed = [Label::JcampCs, Label::Origin, Label::Owner, Label::Molform];
@@ -206,8 +207,11 @@ impl<'a> Reading<'a> {
         if is_missing || self.structure.atoms.is_empty() {
             broken.push(8);
         }
-        if !fields.is_empty() {
+        if !fields.is_empty() || self.lacks_the_yes() {
             broken.push(9);
+        }
+        if self.has_yes_beside_rows() {
+            broken.push(13);
         }
         if self.formula != formula::listed(&self.structure.atoms) {
             broken.push(15);
@@ -221,6 +225,17 @@ impl<'a> Reading<'a> {
             broken.push(42);
         }
         broken
+    }
+
+    /// STEREOMOLECULE with "no value": its label was met, and no row below or beside it.
+    fn lacks_the_yes(&self) -> bool {
+        self.seen.contains(&Label::Stereomolecule) && !self.structure.helical
+    }
+
+    /// "YES beside any centre or pair row", whichever came first; a label without rows is none.
+    fn has_yes_beside_rows(&self) -> bool {
+        let has_rows = !self.structure.centres.is_empty() || !self.structure.pairs.is_empty();
+        self.structure.helical && has_rows
     }
 
     /// A line of the current record, without its comment; "lines then blank are skipped".
@@ -250,6 +265,9 @@ impl<'a> Reading<'a> {
             }
             Label::Stereopair => {
                 lists::pair(&fields, atoms, &content.pairs).map(|pair| content.pairs.push(pair))
+            }
+            Label::Stereomolecule => {
+                lists::helical(&fields, content.helical).map(|()| content.helical = true)
             }
             Label::Xyz => coordinates::row(&fields, atoms, &content.coordinates.rows)
                 .map(|row| content.coordinates.rows.push(row)),

@@ -1,4 +1,5 @@
-//! Limits and the layout of the structure table: document 01, "The structure table".
+//! Limits and the layout of the structure table: document 01, "The structure table", and request L4,
+//! "Table number 13 becomes 1".
 
 use super::coordinates::Coordinates;
 
@@ -11,6 +12,7 @@ pub const CENTRES: usize = 128;
 pub const PAIRS: usize = 128;
 
 pub const TEXTS_FROM: usize = 7;
+pub const HELICAL_AT: usize = 13;
 pub const ATOMS_FROM: usize = 16;
 pub const BONDS_FROM: usize = 1296;
 pub const CHARGES_FROM: usize = 2832;
@@ -55,8 +57,8 @@ pub struct Pair {
     pub group: i32,
 }
 
-/// A block's content; `texts` are start and length of title, origin and owner. The coordinates stand
-/// in no structure table.
+/// A block's content; `texts` are start and length of title, origin and owner; `helical` is the YES of
+/// STEREOMOLECULE. The coordinates stand in no structure table.
 #[derive(Clone, Debug, Default, PartialEq)]
 pub struct Structure {
     pub block_id: i32,
@@ -67,6 +69,7 @@ pub struct Structure {
     pub radicals: Vec<Spread>,
     pub centres: Vec<Centre>,
     pub pairs: Vec<Pair>,
+    pub helical: bool,
     pub coordinates: Coordinates,
 }
 
@@ -137,6 +140,7 @@ fn place_head(table: &mut [i32], structure: &Structure) {
     for (index, (start, length)) in structure.texts.iter().enumerate() {
         place(table, TEXTS_FROM + 2 * index, &[*start as i32, *length as i32]);
     }
+    table[HELICAL_AT] = i32::from(structure.helical);
 }
 
 fn place(table: &mut [i32], from: usize, numbers: &[i32]) {

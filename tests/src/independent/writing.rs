@@ -1,5 +1,5 @@
-//! Writing a table: document 01, "Refusal numbers" (writing) and "The one written form".
-//! Soundness is tested item by item, in the order of open-points I.
+//! Writing a table: document 01, "Refusal numbers" (writing) and "The one written form"; request L4
+//! (number 13). Soundness is tested item by item, in the order of open-points I.
 
 use super::elements::{written, written_order};
 use super::formula::listed;
@@ -51,6 +51,7 @@ pub fn is_sound(table: &[i32], texts: &[u8]) -> bool {
         && spreads_are_sound(table, 3, 4, |value| (1..=15).contains(&value))
         && centres_are_sound(table)
         && pairs_are_sound(table)
+        && helical_is_sound(table)
         && unused_numbers_are_zero(table)
         && (0..3).all(|which| text_is_sound(table, which, texts))
 }
@@ -117,12 +118,21 @@ fn pairs_are_sound(table: &[i32]) -> bool {
     ends_are_sound(table, 5) && used(table, 5).all(|pair| (0..=2).contains(&pair[2]) && is_group(pair[3]))
 }
 
-/// 13 to 15 and every number of an unused row are 0.
+/// Number 13 is 0 or 1, and "a sound table with 13 set has no centres and no pairs".
+fn helical_is_sound(table: &[i32]) -> bool {
+    match table[HELICAL_AT] {
+        0 => true,
+        1 => table[4] == 0 && table[5] == 0,
+        _ => false,
+    }
+}
+
+/// 14, 15 and every number of an unused row are 0.
 fn unused_numbers_are_zero(table: &[i32]) -> bool {
     let rest = |&(count, from, width, limit): &(usize, usize, usize, usize)| {
         table[from + table[count] as usize * width..from + limit * width].iter().all(|&n| n == 0)
     };
-    table[13..16].iter().all(|&number| number == 0) && LISTS.iter().all(rest)
+    table[14..16].iter().all(|&number| number == 0) && LISTS.iter().all(rest)
 }
 
 /// Empty as 0, 0; or within the bytes lent, trimmed, allowed, without `##` right after a line feed.
@@ -159,6 +169,7 @@ fn taken_out(table: &[i32]) -> Structure {
         radicals: spreads(table, 3, 4),
         centres: used(table, 4).map(centre).collect(),
         pairs: used(table, 5).map(pair).collect(),
+        helical: table[HELICAL_AT] == 1,
         ..Structure::default()
     }
 }
@@ -189,6 +200,10 @@ fn form(structure: &Structure, texts: &[u8]) -> Vec<u8> {
     }
     write_value(&mut form, "MOLFORM", formula(&structure.atoms).as_bytes());
     write_lists(&mut form, structure);
+    if structure.helical {
+        // "written as a record after STEREOPAIR with the value on the label line"
+        write_value(&mut form, "STEREOMOLECULE", b"YES");
+    }
     form.extend(b"##END=\n");
     form
 }

@@ -75,6 +75,7 @@ pub enum Label {
     Radical,
     Stereocenter,
     Stereopair,
+    Stereomolecule,
     MaxXyz,
     XyzFactor,
     Xyz,
@@ -128,18 +129,29 @@ const XYZ: u64 = code(b"XYZ");
 const BLOCK_ID: u64 = code(b"BLOCKID");
 const END: u64 = code(b"END");
 
-/// The longest known label has 12 letters, which 60 bits hold; a longer one sets a bit above them.
-const LONGEST: u64 = 1 << 60;
+/// All known labels but one have at most 12 letters, which 60 bits hold: with 12 letters a code is no
+/// smaller than this, as no letter is 0.
+const TWELVE: u64 = 1 << 55;
+
+/// The one known label that a code does not hold.
+const STEREOMOLECULE: &[u8] = b"STEREOMOLECULE";
 
 /// The label of a line that starts with `##`, and where its value starts; none without `=`.
 pub fn label(line: &[u8]) -> Option<(Label, usize)> {
     let mut code = 0u64;
-    let mut foreign = false;
+    let (mut foreign, mut long) = (false, false);
     for (index, byte) in line.iter().enumerate().skip(2) {
         match byte {
-            b'=' => return Some((if foreign { Label::Unknown } else { known(code) }, index + 1)),
+            b'=' => {
+                let label = match (foreign, long) {
+                    (true, _) => Label::Unknown,
+                    (_, true) => long_label(&line[2..index]),
+                    _ => known(code),
+                };
+                return Some((label, index + 1));
+            }
             b'A'..=b'Z' | b'a'..=b'z' => {
-                foreign |= code >= LONGEST >> 5;
+                long |= code >= TWELVE;
                 code = code << 5 | u64::from(byte & 31);
             }
             b' ' | b'-' | b'/' | b'_' => {}
@@ -147,6 +159,17 @@ pub fn label(line: &[u8]) -> Option<(Label, usize)> {
         }
     }
     None
+}
+
+/// A label of more than 12 letters, and of bytes that are letters or dropped: letter by letter.
+#[cold]
+fn long_label(label: &[u8]) -> Label {
+    let letters = label.iter().filter(|byte| byte.is_ascii_alphabetic()).map(u8::to_ascii_uppercase);
+    if letters.eq(STEREOMOLECULE.iter().copied()) {
+        Label::Stereomolecule
+    } else {
+        Label::Unknown
+    }
 }
 
 fn known(code: u64) -> Label {

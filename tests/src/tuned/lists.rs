@@ -10,6 +10,7 @@ pub const BONDS: usize = 512;
 pub const SPREADS: usize = 64;
 pub const STEREO: usize = 128;
 
+pub const HELICAL_AT: usize = 13;
 pub const ATOMS_FROM: usize = 16;
 pub const BONDS_FROM: usize = 1296;
 pub const CENTRES_FROM: usize = 2960;

@@ -4,9 +4,10 @@
 //!
 //! Its choices: rows of ATOMLIST, BONDLIST and XYZ are tried first at the line's first byte by a quick
 //! leaf; rows of two atoms are packed into one number; a row is compared with the last one and only
-//! then searched for; a label is read once into a number of five bits a letter; a symbol is looked
-//! up in a table; the formula is held in one count for each element, and read again only where a
-//! mass occurs. The lists are kept packed in the lent table itself and spread out at acceptance.
+//! then searched for; a label is read once into a number of five bits a letter, and only one that is
+//! longer than such a number holds is compared letter by letter; a symbol is looked up in a table; the
+//! formula is held in one count for each element, and read again only where a mass occurs. The lists
+//! are kept packed in the lent table itself and spread out at acceptance.
 
 mod coordinates;
 mod formula;

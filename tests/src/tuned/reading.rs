@@ -5,7 +5,7 @@ use std::ops::Range;
 use super::coordinates::Coordinates;
 use super::formula::{self, Masses};
 use super::lines::{self, is_blank, is_gap, Label};
-use super::lists::{ATOMS, ATOMS_FROM, CHARGE, RADICAL};
+use super::lists::{ATOMS, ATOMS_FROM, CHARGE, HELICAL_AT, RADICAL};
 use super::rows::{self, Fields};
 use super::{quick, symbols, FLOATS, NUMBERS};
 
@@ -192,6 +192,7 @@ impl<'a> Reading<'a> {
             Label::Radical => self.spread(RADICAL, row),
             Label::Stereocenter => self.centre(row),
             Label::Stereopair => self.pair(row),
+            Label::Stereomolecule => self.helical(row),
             Label::Xyz => self.coordinate_row(row),
             _ => Err(9),
         }
@@ -249,14 +250,31 @@ impl<'a> Reading<'a> {
         })
     }
 
-    /// The END line: 8, 9, 15, 41 and 42.
+    /// The one row of STEREOMOLECULE; its YES is kept in the table.
+    fn helical(&mut self, row: &[u8]) -> Refused {
+        let mut fields = Fields::new(row);
+        match (fields.next(), fields.next()) {
+            (Some(b"YES"), None) if self.table[HELICAL_AT] == 0 => {
+                self.table[HELICAL_AT] = 1;
+                Ok(())
+            }
+            _ => Err(9),
+        }
+    }
+
+    /// The END line: 8, 9, 13, 15, 41 and 42.
     fn end(&self, value: &[u8]) -> Refused {
         let needed = Label::JcampCs.bit() | Label::Origin.bit() | Label::Owner.bit() | Label::Molform.bit();
         if self.seen & needed != needed || self.atoms == 0 {
             return Err(8);
         }
-        if !lines::without_comment(value).iter().all(|byte| is_blank(*byte)) {
+        let helical = self.table[HELICAL_AT] == 1;
+        let lacks_the_yes = !helical && self.seen & Label::Stereomolecule.bit() != 0;
+        if lacks_the_yes || !lines::without_comment(value).iter().all(|byte| is_blank(*byte)) {
             return Err(9);
+        }
+        if helical && self.centres + self.pairs > 0 {
+            return Err(13);
         }
         let agree = self.counts.iter().all(|count| *count == 0) && (!self.masses || self.masses_agree());
         if !agree {

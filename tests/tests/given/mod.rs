@@ -1,9 +1,9 @@
-//! What the tests of coordinates share: blocks of three atoms with records of coordinates, read into
-//! tables that were full of something else.
+//! What the tests of coordinates and of STEREOMOLECULE share: blocks of three atoms with such records,
+//! read into tables that were full of something else, and what is written of a table.
 #![allow(dead_code)] // each test takes what it needs
 
 use galebonnet_tests::generate::limits_coordinates::{three_atoms, three_records};
-use galebonnet_tests::independent::{self, check, read, Position};
+use galebonnet_tests::independent::{self, check, read, write, Position};
 
 /// Numbers and floats of the tables, and what stands in them before.
 pub const NUMBERS: usize = 3856;
@@ -31,6 +31,26 @@ pub fn answer(block: &[u8]) -> String {
     let check = check(block);
     assert_eq!(format!("{}@{}", check >> 32, check & 0xffff_ffff), answer);
     answer
+}
+
+/// The structure table of an accepted block.
+pub fn table(block: &[u8]) -> Vec<i32> {
+    let reading = lent(block, NUMBERS, FLOATS);
+    assert_eq!(reading.answer, "0@0", "{}", block.escape_ascii());
+    reading.table
+}
+
+/// What is written of a table: its form, or the refusal number; a refusal leaves the buffer alone.
+pub fn written(table: &[i32], texts: &[u8]) -> Result<String, u32> {
+    let mut buffer = vec![b'?'; 32_768];
+    let written = write(table, texts, &mut buffer);
+    assert!(buffer[written.count..].iter().all(|&byte| byte == b'?'));
+    if written.number != 0 {
+        assert_eq!(written.count, 0);
+        return Err(written.number);
+    }
+    buffer.truncate(written.count);
+    Ok(String::from_utf8(buffer).expect("ASCII"))
 }
 
 /// The position of an atom of an accepted block.

@@ -53,6 +53,12 @@ put-atoms-requires c κs = search needs
 put-lists-requires : tie.Need-put-lists-requires
 put-lists-requires c κs = c .before .before .before .before .before .before .before .before .before .before .before .before .before .before .before .before .before .before .before .before .before .before .before .before .before .before .before .before .before .before .before .before .before .before .before .before .before .before .before .before .before .pre .0
 
+cell-requires-2 : tie.Need-cell-requires-2
+cell-requires-2 c κs = search needs
+
+put-yes-requires : tie.Need-put-yes-requires
+put-yes-requires c κs = search needs
+
 slice-aggregate-put-text-3 : tie.Need-slice-aggregate-put-text-3
 slice-aggregate-put-text-3 c = search needs
 
@@ -60,11 +66,11 @@ put-text-requires-3 : tie.Need-put-text-requires-3
 put-text-requires-3 c κs = search needs
 
 same-length : tie.Need-same-length
-same-length c = c .before .before .put-text3 .kept .0 ∙ c .before .before .before .before .before .before .before .put-lists .kept .0 ∙ c .before .before .before .before .before .before .before .before .before .before .before .put-atoms .kept .0 ∙ c .before .before .before .before .before .before .before .before .before .before .before .before .before .before .before .put-text2 .kept .0 ∙ c .before .before .before .before .before .before .before .before .before .before .before .before .before .before .before .before .before .before .before .before .put-formula .kept .0 ∙ c .before .before .before .before .before .before .before .before .before .before .before .before .before .before .before .before .before .before .before .before .before .before .before .before .put-id .kept .0 ∙ c .before .before .before .before .before .before .before .before .before .before .before .before .before .before .before .before .before .before .before .before .before .before .before .before .before .before .before .before .before .put-span3 .kept .0 ∙ c .before .before .before .before .before .before .before .before .before .before .before .before .before .before .before .before .before .before .before .before .before .before .before .before .before .before .before .before .before .before .before .before .before .before .put-span2 .kept .0 ∙ c .before .before .before .before .before .before .before .before .before .before .before .before .before .before .before .before .before .before .before .before .before .before .before .before .before .before .before .before .before .before .before .before .before .before .before .before .before .before .before .put-text .kept .0 ∙ c .before .before .before .before .before .before .before .before .before .before .before .before .before .before .before .before .before .before .before .before .before .before .before .before .before .before .before .before .before .before .before .before .before .before .before .before .before .before .before .before .before .before .before .before .put-span .kept .0
+same-length c = let whole = c .before .before .before .before .before .before .before in let lists = whole .before .before .before .before .before in let atoms = lists .before .before .before .before in let label = atoms .before .before .before .before in let formula = label .before .before .before .before .before in let id = formula .before .before .before .before in let owner = id .before .before .before .before .before in let origin = owner .before .before .before .before .before in let version = origin .before .before .before .before .before in let title = version .before .before .before .before .before in c .before .before .put-text3 .kept .0 ∙ whole .put-yes .kept .0 ∙ lists .put-lists .kept .0 ∙ atoms .put-atoms .kept .0 ∙ label .put-text2 .kept .0 ∙ formula .put-formula .kept .0 ∙ id .put-id .kept .0 ∙ owner .put-span3 .kept .0 ∙ origin .put-span2 .kept .0 ∙ version .put-text .kept .0 ∙ title .put-span .kept .0
 
 returns : tie.Need-returns
 unfolding bytes valued printRecord textPlace
-returns c = form-laid (c .before .before .before .before .before .before .before .before .before .before .before .before .before .before .before .before .before .before .before .before .before .before .before .before .before .before .before .before .before .before .before .before .before .before .before .before .before .before .before .before .before .before .before .before .before .before .before .before .before .args .table .now) (c .before .before .before .before .before .before .before .before .before .before .before .before .before .before .before .before .before .before .before .before .before .before .before .before .before .before .before .before .before .before .before .before .before .before .before .before .before .before .before .before .before .before .before .before .before .before .before .before .before .args .bytes .now) _ (c .before .before .before .before .before .before .before .before .before .before .before .before .before .before .before .before .before .before .before .before .before .before .before .before .before .before .before .before .before .before .before .before .before .before .before .before .before .before .before .before .before .before .before .before .before .before .before .before .before .args .keys .now) (c .before .before .before .before .before .before .before .before .before .before .before .before .before .before .before .before .before .before .before .before .before .before .before .before .before .before .before .before .before .before .before .before .before .before .before .before .before .before .before .before .before .before .before .before .before .before .before .before .before .args .counts .now) _ (c .before .before .before .before .before .before .before .before .before .before .before .before .before .before .before .before .before .before .before .before .before .before .before .before .before .cell .ensures) (c .before .before .before .before .before .before .before .before .before .before .before .before .before .before .before .before .before .before .before .before .before .before .before .before .before .before .before .before .before .before .before .before .before .before .before .before .before .before .before .before .before .before .before .before .put-span .ensures) (c .before .before .before .before .before .before .before .before .before .before .before .before .before .before .before .before .before .before .before .before .before .before .before .before .before .before .before .before .before .before .before .before .before .before .before .before .before .before .before .put-text .ensures) (c .before .before .before .before .before .before .before .before .before .before .before .before .before .before .before .before .before .before .before .before .before .before .before .before .before .before .before .before .before .before .before .before .before .before .put-span2 .ensures) (c .before .before .before .before .before .before .before .before .before .before .before .before .before .before .before .before .before .before .before .before .before .before .before .before .before .before .before .before .before .put-span3 .ensures) (c .before .before .before .before .before .before .before .before .before .before .before .before .before .before .before .before .before .before .before .before .before .before .before .before .put-id .ensures) (c .before .before .before .before .before .before .before .before .before .before .before .before .before .before .before .before .before .before .before .before .put-formula .ensures) (c .before .before .before .before .before .before .before .before .before .before .before .before .before .before .before .put-text2 .ensures) (c .before .before .before .before .before .before .before .before .before .before .before .put-atoms .ensures) (c .before .before .before .before .before .before .before .put-lists .ensures) (c .before .before .put-text3 .ensures)
+returns c = let whole = c .before .before .before .before .before .before .before in let lists = whole .before .before .before .before .before in let atoms = lists .before .before .before .before in let label = atoms .before .before .before .before in let formula = label .before .before .before .before .before in let id = formula .before .before .before .before in let owner = id .before .before .before .before .before in let origin = owner .before .before .before .before .before in let version = origin .before .before .before .before .before in let title = version .before .before .before .before .before in let lent = title .before .before .before .before .before .args in form-laid (lent .table .now) (lent .bytes .now) _ (lent .keys .now) (lent .counts .now) _ _ (id .before .cell .ensures) (whole .before .cell2 .ensures) (title .put-span .ensures) (version .put-text .ensures) (origin .put-span2 .ensures) (owner .put-span3 .ensures) (id .put-id .ensures) (formula .put-formula .ensures) (label .put-text2 .ensures) (atoms .put-atoms .ensures) (lists .put-lists .ensures) (whole .put-yes .ensures) (c .before .before .put-text3 .ensures)
 
 pub put-records-spec : {M : Type 1} → statement M
 put-records-spec =
@@ -85,6 +91,8 @@ put-records-spec =
     put-text-requires-2
     put-atoms-requires
     put-lists-requires
+    cell-requires-2
+    put-yes-requires
     slice-aggregate-put-text-3
     put-text-requires-3
     same-length

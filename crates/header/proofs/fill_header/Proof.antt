@@ -50,11 +50,14 @@ text-requires-3 c κs = search needs
 put-text-requires-3 : tie.Need-put-text-requires-3
 put-text-requires-3 c κs = (omega (arith, text-place 2 (omega arith)), told (c .before .before .before .before .before .before .before .before .before .before .before .before .before .before .before .before) .owner, omega arith)
 
+put-handed-requires : tie.Need-put-handed-requires
+put-handed-requires c κs = search needs
+
 same-length : tie.Need-same-length
 same-length c = search needs
 
 returns-4 : tie.Need-returns-4
-returns-4 c = let e = c .before .before .before .before .before .before .before .before .before .before .before .before .before .before .before .before .before .before in let x = e .before .before .before .before .before .args in filled-where _ _ _ _ (e .before .before .before .if1 .left, e .before .before .if2 .left, told e) (header-is (x .part .now) _ _ _ _ _ (x .block .now) (x .p) (e .before .before .before .if1 .left) (c .before .before .before .before .before .before .before .before .before .before .before .before .before .before .before .before .clear-part .ensures) (c .before .before .before .before .before .before .before .before .before .before .before .before .before .put-counts .ensures) (text-placed _ _ _ 0 _ (omega arith) (c .before .before .before .before .before .before .before .before .before .before .text .ensures) (c .before .before .before .before .before .before .before .before .before .put-text .ensures)) (text-placed _ _ _ 1 _ (omega arith) (c .before .before .before .before .before .before .text2 .ensures) (c .before .before .before .before .before .put-text2 .ensures)) (text-placed _ _ _ 2 _ (omega arith) (c .before .before .text3 .ensures) (c .before .put-text3 .ensures)))
+returns-4 c = let e = c .before .before .before .before .before .before .before .before .before .before .before .before .before .before .before .before .before .before .before .before .before in let x = e .before .before .before .before .before .args in filled-where _ _ _ _ (e .before .before .before .if1 .left, e .before .before .if2 .left, told e) (header-is (x .part .now) _ _ _ _ _ _ (x .block .now) (x .p) (e .before .before .before .if1 .left) (c .before .before .before .before .before .before .before .before .before .before .before .before .before .before .before .before .before .before .before .clear-part .ensures) (c .before .before .before .before .before .before .before .before .before .before .before .before .before .before .before .before .put-counts .ensures) (text-placed _ _ _ 0 _ (omega arith) (c .before .before .before .before .before .before .before .before .before .before .before .before .before .text .ensures) (c .before .before .before .before .before .before .before .before .before .before .before .before .put-text .ensures)) (text-placed _ _ _ 1 _ (omega arith) (c .before .before .before .before .before .before .before .before .before .text2 .ensures) (c .before .before .before .before .before .before .before .before .put-text2 .ensures)) (text-placed _ _ _ 2 _ (omega arith) (c .before .before .before .before .before .text3 .ensures) (c .before .before .before .before .put-text3 .ensures)) (c .before .put-handed .ensures))
 
 pub fill-header-spec : {M : Type 1} → statement M
 fill-header-spec =
@@ -72,5 +75,6 @@ fill-header-spec =
     put-text-requires-2
     text-requires-3
     put-text-requires-3
+    put-handed-requires
     same-length
     returns-4)

@@ -12,7 +12,7 @@ use Rattle.judgement.proofs.judge_lines.Statement.{statement}
 use Rattle.judgement.proofs.judge_lines.Tie as tie
 
 abbrev Inv-loop : tie.InvT-loop
-Inv-loop block u t₀ w₀ p₀ at₀ t w p at = (at ≤ length block) × (length t ≡ 2972) × (length w ≡ length w₀) × Bounded (length block) p × Flowing at p × (t₀ ≡ filled 0 2972 [] → Going u block at p t w)
+Inv-loop block u t₀ w₀ p₀ at₀ t w p at = (at ≤ length block) × (length t ≡ 2973) × (length w ≡ length w₀) × Bounded (length block) p × Flowing at p × (t₀ ≡ filled 0 2973 [] → Going u block at p t w)
 
 abbrev μ-loop : tie.MeasureT-loop
 μ-loop block u t₀ w₀ p₀ at₀ t w p at = length block - at
@@ -54,7 +54,7 @@ loop-less : tie.Need-loop-less Inv-loop μ-loop
 loop-less c = let r = c .before .before .before in let x = r .before .before .before .before .before .before in let s = x .before .before .before .before in let m = s .before .before .before in let l = m .before .before in let k = l .before .before in let a = k .before .before .before .before in let d = looked-end (a .args .block .now) (k .loop .at) (l .clean-end .result) _ (m .end .given .1) (l .clean-end .ensures) in omega (arith, d .end .more (l .before .loop-test .taken), d .end .high (k .loop .inv .0), r .xyz-rows .ensures .low)
 
 loop-again : tie.Need-loop-again Inv-loop μ-loop
-loop-again c = let r = c .before .before .before in let x = r .before .before .before .before .before .before in let s = x .before .before .before .before in let m = s .before .before .before in let l = m .before .before in let k = l .before .before in let a = k .before .before .before .before in let d = looked-end (a .args .block .now) (k .loop .at) (l .clean-end .result) _ (m .end .given .1) (l .clean-end .ensures) in placed-on (a .args .u) (a .args .block .now) _ _ (s .line-step .last .1 .1 .1 .1 .1 .0) (k .loop .store) (bounded-go _ (s .line-step .result) _ (x .next .given .1) (s .line-step .ensures .1)) (r .before .before .before .if1 .taken) (r .xyz-rows .last .1 .1 .1 .1 .0) (r .xyz-rows .last .1 .1 .1 .1 .1 .0) (r .xyz-rows .result) (r .xyz-rows .ensures) (a .args .scratch .now ≡ filled 0 2972 []) (length (a .args .store .now)) (d .end .high (k .loop .inv .0)) (k .loop .inv .2) (λ z. (k .loop .inv .5 z .state, k .loop .inv .5 z .stored, went (a .args .u) (a .args .block .now) (k .loop .at) _ (k .loop .p) (k .loop .scratch) (s .line-step .last .1 .1 .1 .1 .1 .0) (k .loop .store) (k .loop .inv .5 z) (l .before .loop-test .taken) (d .end) (s .line-step .result) (s .line-step .ensures .3) _ (x .next .given .1)))
+loop-again c = let r = c .before .before .before in let x = r .before .before .before .before .before .before in let s = x .before .before .before .before in let m = s .before .before .before in let l = m .before .before in let k = l .before .before in let a = k .before .before .before .before in let d = looked-end (a .args .block .now) (k .loop .at) (l .clean-end .result) _ (m .end .given .1) (l .clean-end .ensures) in placed-on (a .args .u) (a .args .block .now) _ _ (s .line-step .last .1 .1 .1 .1 .1 .0) (k .loop .store) (bounded-go _ (s .line-step .result) _ (x .next .given .1) (s .line-step .ensures .1)) (r .before .before .before .if1 .taken) (r .xyz-rows .last .1 .1 .1 .1 .0) (r .xyz-rows .last .1 .1 .1 .1 .1 .0) (r .xyz-rows .result) (r .xyz-rows .ensures) (a .args .scratch .now ≡ filled 0 2973 []) (length (a .args .store .now)) (d .end .high (k .loop .inv .0)) (k .loop .inv .2) (λ z. (k .loop .inv .5 z .state, k .loop .inv .5 z .stored, went (a .args .u) (a .args .block .now) (k .loop .at) _ (k .loop .p) (k .loop .scratch) (s .line-step .last .1 .1 .1 .1 .1 .0) (k .loop .store) (k .loop .inv .5 z) (l .before .loop-test .taken) (d .end) (s .line-step .result) (s .line-step .ensures .3) _ (x .next .given .1)))
 
 loop-less-2 : tie.Need-loop-less-2 Inv-loop μ-loop
 loop-less-2 c = let x = c .before .before .before .before .before .before .before in let s = x .before .before .before .before in let m = s .before .before .before in let l = m .before .before in let k = l .before .before in let a = k .before .before .before .before in let d = looked-end (a .args .block .now) (k .loop .at) (l .clean-end .result) _ (m .end .given .1) (l .clean-end .ensures) in omega (arith, d .end .more (l .before .loop-test .taken), d .end .high (k .loop .inv .0))
@@ -69,7 +69,7 @@ loop-less-3 : tie.Need-loop-less-3 Inv-loop μ-loop
 loop-less-3 c = let r = c .before .before .before in let x = r .before .before .before .before .before .before .before in let s = x .before .before .before .before in let m = s .before .before .before in let l = m .before .before in let k = l .before .before in let a = k .before .before .before .before in let d = looked-end (a .args .block .now) (k .loop .at) (l .clean-end .result) _ (m .end .given .1) (l .clean-end .ensures) in omega (arith, d .end .more (l .before .loop-test .taken), d .end .high (k .loop .inv .0), r .rows-run .ensures .1 .low)
 
 loop-again-3 : tie.Need-loop-again-3 Inv-loop μ-loop
-loop-again-3 c = let r = c .before .before .before in let e = r .before .before .before .before in let x = e .before .before .before in let s = x .before .before .before .before in let m = s .before .before .before in let l = m .before .before in let k = l .before .before in let a = k .before .before .before .before in let d = looked-end (a .args .block .now) (k .loop .at) (l .clean-end .result) _ (m .end .given .1) (l .clean-end .ensures) in ran-on (a .args .u) (a .args .block .now) _ _ (s .line-step .last .1 .1 .1 .1 .1 .0) (r .rows-run .last .1 .1 .1 .1 .0) (k .loop .store) (r .rows-run .result) (r .rows-run .ensures .1) (bounded-go _ (s .line-step .result) _ (x .next .given .1) (s .line-step .ensures .1)) (a .args .scratch .now ≡ filled 0 2972 []) (length (a .args .store .now)) (a .pre .1 .low) (d .end .high (k .loop .inv .0)) (r .rows-run .ensures .0 ∙ s .line-step .ensures .0) (k .loop .inv .2) (flowing-go _ (s .line-step .result) _ (x .next .given .1) (s .line-step .ensures .2)) (λ z. going-on (a .args .u) (a .args .block .now) _ _ (s .line-step .last .1 .1 .1 .1 .1 .0) (k .loop .store) (bounded-go _ (s .line-step .result) _ (x .next .given .1) (s .line-step .ensures .1)) (e .if1 .left) (k .loop .inv .5 z .state) (k .loop .inv .5 z .stored) (went (a .args .u) (a .args .block .now) (k .loop .at) _ (k .loop .p) (k .loop .scratch) (s .line-step .last .1 .1 .1 .1 .1 .0) (k .loop .store) (k .loop .inv .5 z) (l .before .loop-test .taken) (d .end) (s .line-step .result) (s .line-step .ensures .3) _ (x .next .given .1)))
+loop-again-3 c = let r = c .before .before .before in let e = r .before .before .before .before in let x = e .before .before .before in let s = x .before .before .before .before in let m = s .before .before .before in let l = m .before .before in let k = l .before .before in let a = k .before .before .before .before in let d = looked-end (a .args .block .now) (k .loop .at) (l .clean-end .result) _ (m .end .given .1) (l .clean-end .ensures) in ran-on (a .args .u) (a .args .block .now) _ _ (s .line-step .last .1 .1 .1 .1 .1 .0) (r .rows-run .last .1 .1 .1 .1 .0) (k .loop .store) (r .rows-run .result) (r .rows-run .ensures .1) (bounded-go _ (s .line-step .result) _ (x .next .given .1) (s .line-step .ensures .1)) (a .args .scratch .now ≡ filled 0 2973 []) (length (a .args .store .now)) (a .pre .1 .low) (d .end .high (k .loop .inv .0)) (r .rows-run .ensures .0 ∙ s .line-step .ensures .0) (k .loop .inv .2) (flowing-go _ (s .line-step .result) _ (x .next .given .1) (s .line-step .ensures .2)) (λ z. going-on (a .args .u) (a .args .block .now) _ _ (s .line-step .last .1 .1 .1 .1 .1 .0) (k .loop .store) (bounded-go _ (s .line-step .result) _ (x .next .given .1) (s .line-step .ensures .1)) (e .if1 .left) (k .loop .inv .5 z .state) (k .loop .inv .5 z .stored) (went (a .args .u) (a .args .block .now) (k .loop .at) _ (k .loop .p) (k .loop .scratch) (s .line-step .last .1 .1 .1 .1 .1 .0) (k .loop .store) (k .loop .inv .5 z) (l .before .loop-test .taken) (d .end) (s .line-step .result) (s .line-step .ensures .3) _ (x .next .given .1)))
 
 enum-known-number : tie.Need-enum-known-number Inv-loop μ-loop
 enum-known-number c = search needs

@@ -1,24 +1,26 @@
 //! The definitions held against the independent reader.
 //!
-//! `hold COUNT SEED`, from the project's root, generates COUNT blocks, three blocks with coordinates and three
-//! tables to ten blocks and one transfer file to ten, and states the independent reader's answer to each as a theorem
-//! by computation over the definitions of `crates/format/specs`: for a block the number, the place, every number of
-//! the lent table and every float of the lent positions; for a table the number, the count and every byte of the
-//! buffer; for a file its pieces, some single steps, a name and a check. `hold coordinates COUNT SEED` states COUNT
-//! blocks with coordinates alone, `hold limits` the named cases at and one over every limit. The theorems stand in a
-//! repository of their own under target/held, and the prover checks them there.
+//! `hold COUNT SEED`, from the project's root, generates COUNT blocks, three blocks with coordinates, two blocks with
+//! STEREOMOLECULE and three tables to ten blocks and one transfer file to ten, and states the independent reader's
+//! answer to each as a theorem by computation over the definitions of `crates/format/specs`: for a block the number,
+//! the place, every number of the lent table and every float of the lent positions; for a table the number, the count
+//! and every byte of the buffer; for a file its pieces, some single steps, a name and a check. `hold coordinates COUNT
+//! SEED` states COUNT blocks with coordinates alone, `hold helical COUNT SEED` COUNT blocks with STEREOMOLECULE and
+//! three tables with number 13 set to ten of them, `hold limits` the named cases at and one over every limit. The
+//! theorems stand in a repository of their own under target/held, and the prover checks them there.
 
 mod terms;
 mod theorems;
 
 use std::collections::BTreeMap;
+use std::fmt::Display;
 use std::path::{Path, PathBuf};
 use std::process::{exit, Command};
 use std::str::FromStr;
 use std::time::Instant;
 use std::{env, fs};
 
-use theorems::{block_cases, coordinate_cases, file_cases, limit_cases, table_cases, Theorem};
+use theorems::{block_cases, coordinate_cases, file_cases, helical_cases, limit_cases, table_cases, Theorem};
 
 /// How many theorems stand in one file.
 const A_FILE: usize = 25;
@@ -29,6 +31,7 @@ fn main() {
     let theorems = match words.iter().map(String::as_str).collect::<Vec<_>>()[..] {
         ["limits"] => limit_cases(),
         ["coordinates", count, seed] => coordinate_cases(asked(count), asked(seed)),
+        ["helical", count, seed] => helical_cases(asked(count), asked(seed)),
         [count, seed] => generated(asked(count), asked(seed)),
         _ => usage(),
     };
@@ -52,7 +55,9 @@ fn main() {
 }
 
 fn usage() -> ! {
-    eprintln!("usage, from the project's root: hold COUNT SEED | hold coordinates COUNT SEED | hold limits");
+    eprintln!(
+        "usage, from the project's root: hold COUNT SEED | hold coordinates COUNT SEED | hold helical COUNT SEED | hold limits"
+    );
     exit(2)
 }
 
@@ -64,12 +69,14 @@ fn asked<Number: FromStr>(word: &str) -> Number {
 fn generated(count: usize, seed: u64) -> Vec<Theorem> {
     let mut theorems = block_cases(count, seed);
     theorems.extend(coordinate_cases(count * 3 / 10, seed));
+    theorems.extend(helical_cases(count * 2 / 10, seed));
     theorems.extend(table_cases(count * 3 / 10, seed));
     theorems.extend(file_cases(count / 10, seed));
     theorems
 }
 
-/// How often each refusal number is among the answers, and among those that the records of coordinates gave.
+/// How often each refusal number is among the answers, and among those that the records of coordinates and
+/// STEREOMOLECULE gave.
 fn report(theorems: &[Theorem], named: &str, seconds: u64) {
     let mut subjects: Vec<&str> = theorems.iter().map(|theorem| theorem.of).collect();
     subjects.dedup();
@@ -80,15 +87,18 @@ fn report(theorems: &[Theorem], named: &str, seconds: u64) {
     }
     let by_coordinates = theorems.iter().filter_map(|theorem| theorem.by_coordinates);
     println!("refused by the records of coordinates:{}", counted(by_coordinates));
+    let by_helical = theorems.iter().filter_map(|theorem| theorem.by_helical);
+    println!("refused by STEREOMOLECULE:{}", counted(by_helical));
     println!("hold {named}: {} theorems checked in {seconds} s", theorems.len());
 }
 
-fn counted(numbers: impl Iterator<Item = u32>) -> String {
-    let mut times: BTreeMap<u32, usize> = BTreeMap::new();
-    for number in numbers {
-        *times.entry(number).or_default() += 1;
+fn counted<Refusal: Ord + Display>(refusals: impl Iterator<Item = Refusal>) -> String {
+    let mut times: BTreeMap<Refusal, usize> = BTreeMap::new();
+    for refusal in refusals {
+        *times.entry(refusal).or_default() += 1;
     }
-    times.iter().map(|(number, times)| format!(" {number} x{times}")).collect()
+    let counts: Vec<String> = times.iter().map(|(refusal, times)| format!(" {refusal} x{times}")).collect();
+    counts.join(",")
 }
 
 /// The repository of the theorems: the definitions as they are, without their laws, and the crate `held` over them.

@@ -1,24 +1,34 @@
 //! The independent reader's answers, stated as theorems over the definitions.
 
 use galebonnet_tests::generate::coordinates::refused_by_coordinates;
-use galebonnet_tests::generate::{self, Random};
+use galebonnet_tests::generate::helical::{refused_by_helical, refused_by_number_13};
+use galebonnet_tests::generate::{self, Random, TableCase};
 use galebonnet_tests::independent::{self, Walked};
 
 use crate::terms::{bytes, positions, table};
 
 /// A theorem: what it is of, the refusal numbers in it, the one of them that the records of
-/// coordinates gave, its statement and its proof.
+/// coordinates gave, the one that STEREOMOLECULE gave, its statement and its proof.
 pub struct Theorem {
     pub of: &'static str,
     pub numbers: Vec<u32>,
     pub by_coordinates: Option<u32>,
+    pub by_helical: Option<&'static str>,
     statement: String,
     open: &'static str,
     proof: &'static str,
 }
 
 fn computed(of: &'static str, numbers: Vec<u32>, statement: String) -> Theorem {
-    Theorem { of, numbers, by_coordinates: None, statement, open: "computing", proof: "refl" }
+    Theorem {
+        of,
+        numbers,
+        by_coordinates: None,
+        by_helical: None,
+        statement,
+        open: "computing",
+        proof: "refl",
+    }
 }
 
 /// A file of theorems, numbered from one on.
@@ -76,7 +86,8 @@ fn block_case(of: &'static str, block: &[u8], (numbers, floats): (usize, usize))
         positions(&places)
     );
     let by_coordinates = refused_by_coordinates(block, answer);
-    Theorem { by_coordinates, ..computed(of, vec![answer.number], statement) }
+    let by_helical = refused_by_helical(block, answer);
+    Theorem { by_coordinates, by_helical, ..computed(of, vec![answer.number], statement) }
 }
 
 /// Generated blocks, a few of them into short or longer tables, a few over the longest length.
@@ -100,6 +111,19 @@ pub fn coordinate_cases(count: usize, seed: u64) -> Vec<Theorem> {
     (0..count).map(case).collect()
 }
 
+/// Generated blocks with STEREOMOLECULE, and three tables with number 13 set to ten of them.
+pub fn helical_cases(count: usize, seed: u64) -> Vec<Theorem> {
+    let mut random = Random::new(seed ^ 0x0068_656c_6963);
+    let mut cases = Vec::new();
+    for index in 0..count {
+        cases.push(block_case("helical blocks", &generate::helical_block(&mut random), lengths(index)));
+    }
+    for _ in 0..count * 3 / 10 {
+        cases.push(table_case("helical tables", &generate::helical_table_case(&mut random)));
+    }
+    cases
+}
+
 /// One of 20 cases for each way in which a table is short or longer.
 fn lengths(index: usize) -> (usize, usize) {
     match index % 20 {
@@ -120,23 +144,24 @@ pub fn limit_cases() -> Vec<Theorem> {
 /// Generated tables with their texts and buffers.
 pub fn table_cases(count: usize, seed: u64) -> Vec<Theorem> {
     let mut random = Random::new(seed ^ 0x7461_626c_6573);
-    let mut cases = Vec::new();
-    for _ in 0..count {
-        let case = generate::table_case(&mut random);
-        let mut buffer = vec![LENT as u8; case.room];
-        let written = independent::write(&case.table, &case.texts, &mut buffer);
-        let statement = format!(
-            "writeResult 103 {} {} (replicate {} {LENT}) ≡ record {{ number = {}; count = {}; buffer = {} }}",
-            table(&case.table),
-            bytes(&case.texts),
-            case.room,
-            written.number,
-            written.count,
-            bytes(&buffer)
-        );
-        cases.push(computed("tables", vec![written.number], statement));
-    }
-    cases
+    (0..count).map(|_| table_case("tables", &generate::table_case(&mut random))).collect()
+}
+
+/// A table written into its buffer: the answer and the whole buffer.
+fn table_case(of: &'static str, case: &TableCase) -> Theorem {
+    let mut buffer = vec![LENT as u8; case.room];
+    let written = independent::write(&case.table, &case.texts, &mut buffer);
+    let statement = format!(
+        "writeResult 103 {} {} (replicate {} {LENT}) ≡ record {{ number = {}; count = {}; buffer = {} }}",
+        table(&case.table),
+        bytes(&case.texts),
+        case.room,
+        written.number,
+        written.count,
+        bytes(&buffer)
+    );
+    let by_helical = refused_by_number_13(&case.table, &case.texts);
+    Theorem { by_helical, ..computed(of, vec![written.number], statement) }
 }
 
 fn walked(answer: &Walked) -> String {
@@ -189,6 +214,7 @@ fn too_long(place: usize) -> Theorem {
         of: "files",
         numbers: vec![31],
         by_coordinates: None,
+        by_helical: None,
         statement,
         open: "walkAt",
         proof: "rw (repeated-length 16777217 35)",

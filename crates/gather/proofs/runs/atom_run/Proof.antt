@@ -12,7 +12,7 @@ use Rattle.gather.proofs.runs.atom_run.Statement.{statement}
 use Rattle.gather.proofs.runs.atom_run.Tie as tie
 
 abbrev Inv-loop : tie.InvT-loop
-Inv-loop block at last atoms scratch₀ place₀ count₀ scratch place count = (length scratch ≡ 2972) × AtomsRan last block at atoms scratch₀ scratch (record { place = place; count = count })
+Inv-loop block at last atoms scratch₀ place₀ count₀ scratch place count = (length scratch ≡ 2973) × AtomsRan last block at atoms scratch₀ scratch (record { place = place; count = count })
 
 abbrev μ-loop : tie.MeasureT-loop
 μ-loop block at last atoms scratch₀ place₀ count₀ scratch place count = 256 - count

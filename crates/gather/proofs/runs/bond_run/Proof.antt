@@ -12,7 +12,7 @@ use Rattle.gather.proofs.runs.bond_run.Statement.{statement}
 use Rattle.gather.proofs.runs.bond_run.Tie as tie
 
 abbrev Inv-loop : tie.InvT-loop
-Inv-loop block at atoms bonds scratch₀ place₀ count₀ scratch place count = (length scratch ≡ 2972) × (count ≤ 512) × BondsRan block at atoms bonds scratch₀ scratch (record { place = place; count = count })
+Inv-loop block at atoms bonds scratch₀ place₀ count₀ scratch place count = (length scratch ≡ 2973) × (count ≤ 512) × BondsRan block at atoms bonds scratch₀ scratch (record { place = place; count = count })
 
 abbrev μ-loop : tie.MeasureT-loop
 μ-loop block at atoms bonds scratch₀ place₀ count₀ scratch place count = length block - place

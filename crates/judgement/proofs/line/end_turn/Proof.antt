@@ -3,9 +3,10 @@ use mathlib.Core.Path.{sym, _∙_}
 use borrow.Author.Tests.{not-true, not-false}
 use Rattle.format.specs.Bytes.{fields}
 use Rattle.gather.specs.Progress.{partOf}
-use Rattle.judgement.proofs.ValueLaws.{fields-blank}
-use Rattle.judgement.proofs.LineTurnLaws.{stop-shown, end-lacking, end-atomless, end-valued, end-untested, end-differs, end-agrees, totals-told}
 use Rattle.gather.proofs.ListLineLaws.{turn-shown}
+use Rattle.judgement.proofs.ValueLaws.{fields-blank}
+use Rattle.judgement.proofs.LineTurnLaws.{stop-shown}
+use Rattle.judgement.proofs.EndTurnLaws.{some-of, end-lacking, end-atomless, end-valued, end-unanswered, end-twice, end-later}
 use borrow.Author.Needs.{needs}
 use Rattle.judgement.proofs.line.end_turn.Statement.{statement}
 use Rattle.judgement.proofs.line.end_turn.Tie as tie
@@ -23,10 +24,10 @@ lacking-requires : tie.Need-lacking-requires
 lacking-requires c κs = search needs
 
 returns : tie.Need-returns
-returns c = let a = c .before .before .before .before .before in (tt, λ st h. stop-shown (a .args .u .last) (a .args .block .now) (a .args .at) (a .args .scratch .now) 8 _ (end-lacking (a .args .u) (a .args .block .now) (a .args .at) (a .args .p) (a .args .scratch .now) st (a .pre .1 .counted) h (fields (partOf (a .args .block .now) (a .args .from) (a .args .to))) (c .before .lacking .result) (c .before .lacking .ensures) (c .if1 .taken)))
+returns c = let l = c .before in let a = l .before .before .before .before in (tt, λ st h. stop-shown (a .args .u .last) (a .args .block .now) (a .args .at) (a .args .scratch .now) 8 _ (end-lacking (a .args .u) (a .args .block .now) (a .args .at) (a .args .p) (a .args .scratch .now) st (a .pre .1 .counted) h (fields (partOf (a .args .block .now) (a .args .from) (a .args .to))) (l .lacking .result) (l .lacking .ensures) (c .if1 .taken)))
 
 returns-2 : tie.Need-returns-2
-returns-2 c = let a = c .before .before .before .before .before .before .before in (tt, λ st h. stop-shown (a .args .u .last) (a .args .block .now) (a .args .at) (a .args .scratch .now) 8 _ (end-atomless (a .args .u) (a .args .block .now) (a .args .at) (a .args .p) (a .args .scratch .now) st (a .pre .1 .counted) h (fields (partOf (a .args .block .now) (a .args .from) (a .args .to))) (c .before .before .before .lacking .result) (c .before .before .before .lacking .ensures) (c .before .before .if1 .left) (c .if2 .taken)))
+returns-2 c = let o = c .before .before in let l = o .before in let a = l .before .before .before .before in (tt, λ st h. stop-shown (a .args .u .last) (a .args .block .now) (a .args .at) (a .args .scratch .now) 8 _ (end-atomless (a .args .u) (a .args .block .now) (a .args .at) (a .args .p) (a .args .scratch .now) st (a .pre .1 .counted) h (fields (partOf (a .args .block .now) (a .args .from) (a .args .to))) (l .lacking .result) (l .lacking .ensures) (o .if1 .left) (c .if2 .taken)))
 
 sub-blank : tie.Need-sub-blank
 sub-blank c = search needs
@@ -41,43 +42,34 @@ blank-requires : tie.Need-blank-requires
 blank-requires c κs = search needs
 
 returns-3 : tie.Need-returns-3
-returns-3 c = let a = c .before .before .before .before .before .before .before .before .before .before in (tt, λ st h. stop-shown (a .args .u .last) (a .args .block .now) (a .args .at) (a .args .scratch .now) 9 _ (end-valued (a .args .u) (a .args .block .now) (a .args .at) (a .args .p) (a .args .scratch .now) st (a .pre .1 .counted) h (fields (partOf (a .args .block .now) (a .args .from) (a .args .to))) (c .before .before .before .before .before .before .lacking .result) (c .before .before .before .before .before .before .lacking .ensures) (c .before .before .before .before .before .if1 .left) (c .before .before .before .if2 .left) (fields-blank _ ∙ sym (c .before .blank .ensures) ∙ not-true _ (c .if3 .taken))))
+returns-3 c = let v = c .before in let n = v .before .before in let o = n .before .before in let l = o .before in let a = l .before .before .before .before in (tt, λ st h. stop-shown (a .args .u .last) (a .args .block .now) (a .args .at) (a .args .scratch .now) 9 _ (end-valued (a .args .u) (a .args .block .now) (a .args .at) (a .args .p) (a .args .scratch .now) st (a .pre .1 .counted) h (fields (partOf (a .args .block .now) (a .args .from) (a .args .to))) (l .lacking .result) (l .lacking .ensures) (o .if1 .left) (n .if2 .left) (fields-blank _ ∙ sym (v .blank .ensures) ∙ not-true _ (c .if3 .taken))))
 
-geometry-end-requires : tie.Need-geometry-end-requires
-geometry-end-requires c κs = search needs
+sub-unanswered : tie.Need-sub-unanswered
+sub-unanswered c = search needs
+
+part-unanswered-start : tie.Need-part-unanswered-start
+part-unanswered-start c = search needs
+
+part-unanswered-end : tie.Need-part-unanswered-end
+part-unanswered-end c = search needs
+
+unanswered-requires : tie.Need-unanswered-requires
+unanswered-requires c κs = search needs
 
 returns-4 : tie.Need-returns-4
-returns-4 c = let w = c .before in let a = w .before .before .before .before .before .before .before .before .before .before .before .before in (c .geometry-end .ensures .0, λ st h. turn-shown (a .args .u .last) (a .args .block .now) (a .args .at) (c .geometry-end .result) (a .args .scratch .now) _ _ (end-untested (a .args .u) (a .args .block .now) (a .args .at) (a .args .p) (a .args .scratch .now) st (a .pre .1 .counted) h (fields (partOf (a .args .block .now) (a .args .from) (a .args .to))) (w .before .before .before .before .before .before .before .before .lacking .result) (w .before .before .before .before .before .before .before .before .lacking .ensures) (w .before .before .before .before .before .before .before .if1 .left) (w .before .before .before .before .before .if2 .left) (fields-blank _ ∙ sym (w .before .before .before .blank .ensures) ∙ not-false _ (w .before .before .if3 .left)) (not-true _ (w .if4 .taken))) (c .geometry-end .ensures .1 (a .args .u .last) (a .args .block .now) st h))
+returns-4 c = let y = c .before in let b = y .before .before in let v = b .before in let n = v .before .before in let o = n .before .before in let l = o .before in let a = l .before .before .before .before in (tt, λ st h. stop-shown (a .args .u .last) (a .args .block .now) (a .args .at) (a .args .scratch .now) 9 _ (end-unanswered (a .args .u) (a .args .block .now) (a .args .at) (a .args .p) (a .args .scratch .now) st (a .pre .1 .counted) h (fields (partOf (a .args .block .now) (a .args .from) (a .args .to))) (l .lacking .result) (l .lacking .ensures) (o .if1 .left) (n .if2 .left) (fields-blank _ ∙ sym (v .blank .ensures) ∙ not-false _ (b .if3 .left)) (y .unanswered .result) (y .unanswered .ensures) (c .if4 .taken)))
 
-sub-agrees : tie.Need-sub-agrees
-sub-agrees c = search needs
-
-part-agrees-start : tie.Need-part-agrees-start
-part-agrees-start c = search needs
-
-part-agrees-end : tie.Need-part-agrees-end
-part-agrees-end c = search needs
-
-sub-agrees-2 : tie.Need-sub-agrees-2
-sub-agrees-2 c = search needs
-
-part-agrees-start-2 : tie.Need-part-agrees-start-2
-part-agrees-start-2 c = search needs
-
-part-agrees-end-2 : tie.Need-part-agrees-end-2
-part-agrees-end-2 c = search needs
-
-agrees-requires : tie.Need-agrees-requires
-agrees-requires c κs = search needs
+handed-twice-requires : tie.Need-handed-twice-requires
+handed-twice-requires c κs = search needs
 
 returns-5 : tie.Need-returns-5
-returns-5 c = let a = c .before .before .before .before .before .before .before .before .before .before .before .before .before .before .before .before .before in (tt, λ st h. stop-shown (a .args .u .last) (a .args .block .now) (a .args .at) (a .args .scratch .now) 15 _ (end-differs (a .args .u) (a .args .block .now) (a .args .at) (a .args .p) (a .args .scratch .now) st (a .pre .1 .counted) h (fields (partOf (a .args .block .now) (a .args .from) (a .args .to))) (c .before .before .before .before .before .before .before .before .before .before .before .before .before .lacking .result) (c .before .before .before .before .before .before .before .before .before .before .before .before .before .lacking .ensures) (c .before .agrees .result) (totals-told (a .args .u) (a .args .block .now) (a .args .at) (a .args .p) (a .args .scratch .now) st (a .pre .1 .counted) h (fields (partOf (a .args .block .now) (a .args .from) (a .args .to))) (a .pre .0) (c .before .before .before .before .before .before .before .before .before .before .if2 .left) (a .pre .4 .high) (c .before .agrees .result) (c .before .agrees .ensures .0)) (c .before .before .before .before .before .before .before .before .before .before .before .before .if1 .left) (c .before .before .before .before .before .before .before .before .before .before .if2 .left) (fields-blank _ ∙ sym (c .before .before .before .before .before .before .before .before .blank .ensures) ∙ not-false _ (c .before .before .before .before .before .before .before .if3 .left)) (not-false _ (c .before .before .before .before .before .if4 .left)) (not-true _ (c .if5 .taken))))
+returns-5 c = let w = c .before in let q = w .before in let y = q .before in let b = y .before .before in let v = b .before in let n = v .before .before in let o = n .before .before in let l = o .before in let a = l .before .before .before .before in (tt, λ st h. stop-shown (a .args .u .last) (a .args .block .now) (a .args .at) (a .args .scratch .now) 13 _ (end-twice (a .args .u) (a .args .block .now) (a .args .at) (a .args .p) (a .args .scratch .now) st (a .pre .1 .counted) h (fields (partOf (a .args .block .now) (a .args .from) (a .args .to))) (l .lacking .result) (l .lacking .ensures) (o .if1 .left) (n .if2 .left) (fields-blank _ ∙ sym (v .blank .ensures) ∙ not-false _ (b .if3 .left)) (y .unanswered .result) (y .unanswered .ensures) (q .if4 .left) (w .handed-twice .result) (w .handed-twice .ensures) (c .if5 .taken)))
 
-geometry-end-requires-2 : tie.Need-geometry-end-requires-2
-geometry-end-requires-2 c κs = search needs
+totals-end-requires : tie.Need-totals-end-requires
+totals-end-requires c κs = search needs
 
 returns-6 : tie.Need-returns-6
-returns-6 c = let w = c .before in let a = w .before .before .before .before .before .before .before .before .before .before .before .before .before .before .before .before .before in (c .geometry-end2 .ensures .0, λ st h. turn-shown (a .args .u .last) (a .args .block .now) (a .args .at) (c .geometry-end2 .result) (a .args .scratch .now) _ _ (end-agrees (a .args .u) (a .args .block .now) (a .args .at) (a .args .p) (a .args .scratch .now) st (a .pre .1 .counted) h (fields (partOf (a .args .block .now) (a .args .from) (a .args .to))) (w .before .before .before .before .before .before .before .before .before .before .before .before .before .lacking .result) (w .before .before .before .before .before .before .before .before .before .before .before .before .before .lacking .ensures) (w .before .agrees .result) (totals-told (a .args .u) (a .args .block .now) (a .args .at) (a .args .p) (a .args .scratch .now) st (a .pre .1 .counted) h (fields (partOf (a .args .block .now) (a .args .from) (a .args .to))) (a .pre .0) (w .before .before .before .before .before .before .before .before .before .before .if2 .left) (a .pre .4 .high) (w .before .agrees .result) (w .before .agrees .ensures .0)) (w .before .before .before .before .before .before .before .before .before .before .before .before .if1 .left) (w .before .before .before .before .before .before .before .before .before .before .if2 .left) (fields-blank _ ∙ sym (w .before .before .before .before .before .before .before .before .blank .ensures) ∙ not-false _ (w .before .before .before .before .before .before .before .if3 .left)) (not-false _ (w .before .before .before .before .before .if4 .left)) (not-false _ (w .if5 .left))) (c .geometry-end2 .ensures .1 (a .args .u .last) (a .args .block .now) st h))
+returns-6 c = let e = c .before in let w = e .before in let q = w .before in let y = q .before in let b = y .before .before in let v = b .before in let n = v .before .before in let o = n .before .before in let l = o .before in let a = l .before .before .before .before in (c .totals-end .ensures .0, λ st h. turn-shown (a .args .u .last) (a .args .block .now) (a .args .at) (c .totals-end .result) (a .args .scratch .now) _ _ (end-later (a .args .u) (a .args .block .now) (a .args .at) (a .args .p) (a .args .scratch .now) st (a .pre .1 .counted) h (fields (partOf (a .args .block .now) (a .args .from) (a .args .to))) (l .lacking .result) (l .lacking .ensures) (o .if1 .left) (n .if2 .left) (fields-blank _ ∙ sym (v .blank .ensures) ∙ not-false _ (b .if3 .left)) (y .unanswered .result) (y .unanswered .ensures) (q .if4 .left) (w .handed-twice .result) (w .handed-twice .ensures) (e .if5 .left)) (c .totals-end .ensures .1 st h))
 
 pub end-turn-spec : {M : Type 1} → statement M
 end-turn-spec =
@@ -94,15 +86,12 @@ end-turn-spec =
     part-blank-end
     blank-requires
     returns-3
-    geometry-end-requires
+    sub-unanswered
+    part-unanswered-start
+    part-unanswered-end
+    unanswered-requires
     returns-4
-    sub-agrees
-    part-agrees-start
-    part-agrees-end
-    sub-agrees-2
-    part-agrees-start-2
-    part-agrees-end-2
-    agrees-requires
+    handed-twice-requires
     returns-5
-    geometry-end-requires-2
+    totals-end-requires
     returns-6)

@@ -43,7 +43,7 @@ note-requires : tie.Need-note-requires
 note-requires c κs = search needs
 
 value-turn-requires : tie.Need-value-turn-requires
-value-turn-requires c κs = let a = c .before .before .before .before .before .before .before .before .before .before .before .before .before in (put-long 2946 17 (a .args .scratch .now) (c .before .before .before .note .last .0) (a .pre .0) (omega arith) (c .before .before .before .note .ensures .0), label-bounded _ _ _ _ (a .pre .4) (a .pre .1), a .pre .2, a .pre .3, a .pre .5)
+value-turn-requires c κs = let a = c .before .before .before .before .before .before .before .before .before .before .before .before .before in (put-long 2946 18 (a .args .scratch .now) (c .before .before .before .note .last .0) (a .pre .0) (omega arith) (c .before .before .before .note .ensures .0), label-bounded _ _ _ _ (a .pre .4) (a .pre .1), a .pre .2, a .pre .3, a .pre .5)
 
 same-length-3 : tie.Need-same-length-3
 same-length-3 c = search needs

@@ -1,7 +1,7 @@
 -- `judgement::line::value_turn` meets its contract. Assumes nothing.
 use mathlib.Core.Logic.{inl, inr, ⊎-elim}
-use Rattle.judgement.proofs.TextTurnLaws.{list-code, geometry-code, no-geometry, outside}
-use Rattle.judgement.proofs.StepTurnLaws.{value-skipped, value-prose, value-version, value-formula, value-id, value-end, value-geometry, value-list}
+use Rattle.judgement.proofs.CodeLaws.{list-code, geometry-code, no-geometry, outside}
+use Rattle.judgement.proofs.StepTurnLaws.{value-skipped, value-prose, value-version, value-formula, value-id, value-end, value-yes, value-geometry, value-list}
 use borrow.Author.Needs.{needs}
 use Rattle.judgement.proofs.line.value_turn.Statement.{statement}
 use Rattle.judgement.proofs.line.value_turn.Tie as tie
@@ -60,6 +60,18 @@ id-turn-requires c κs = search needs
 end-turn-requires : tie.Need-end-turn-requires
 end-turn-requires c κs = search needs
 
+sub-yes-turn : tie.Need-sub-yes-turn
+sub-yes-turn c = search needs
+
+part-yes-turn-start : tie.Need-part-yes-turn-start
+part-yes-turn-start c = search needs
+
+part-yes-turn-end : tie.Need-part-yes-turn-end
+part-yes-turn-end c = search needs
+
+yes-turn-requires : tie.Need-yes-turn-requires
+yes-turn-requires c κs = search needs
+
 sub-geometry-turn : tie.Need-sub-geometry-turn
 sub-geometry-turn c = search needs
 
@@ -99,17 +111,20 @@ same-length c = search needs
 returns-6 : tie.Need-returns-6
 returns-6 c = let v = c .before .before .before in let s = v .before .before .before .before .before .before in value-end (s .args .block .now) (s .args .at) (s .args .from) (s .args .end) (s .args .u) (s .args .p) (s .args .scratch .now) (s .pre .0) (s .pre .1) (s .pre .2) (s .pre .3) (v .uncommented .result) (v .uncommented .ensures) (c .end-turn .result) (c .before .before .match2 .keys4) (c .end-turn .ensures)
 
+returns-7 : tie.Need-returns-7
+returns-7 c = let v = c .before .before .before in let s = v .before .before .before .before .before .before in value-yes (s .args .block .now) (s .args .at) (s .args .from) (s .args .end) (s .args .u) (s .args .p) (s .args .scratch .now) (s .pre .0) (s .pre .1) (s .pre .2) (s .pre .3) (v .uncommented .result) (v .uncommented .ensures) (c .yes-turn .result) (c .before .before .match2 .keys5) (c .yes-turn .ensures)
+
 same-length-2 : tie.Need-same-length-2
 same-length-2 c = search needs
 
-returns-7 : tie.Need-returns-7
-returns-7 c = let g = c .before .before in let e = g .before .before .before .before in let n = e .before .match2 .rest in let v = e .before .before in let s = v .before .before .before .before .before .before in value-geometry (s .args .block .now) (s .args .at) (s .args .from) (s .args .end) (s .args .u) (s .args .p) (s .args .scratch .now) (s .pre .0) (s .pre .1) (s .pre .2) (s .pre .3) (v .uncommented .result) (v .uncommented .ensures) (g .geometry-turn .result) (g .geometry-turn .last .1 .1 .1 .1 .0) (geometry-code _ (e .if3 .left) (g .before .before .before .if4 .taken) (n .0 .1) (n .1)) (g .geometry-turn .ensures)
+returns-8 : tie.Need-returns-8
+returns-8 c = let g = c .before .before in let e = g .before .before .before .before in let n = e .before .match2 .rest in let v = e .before .before in let s = v .before .before .before .before .before .before in value-geometry (s .args .block .now) (s .args .at) (s .args .from) (s .args .end) (s .args .u) (s .args .p) (s .args .scratch .now) (s .pre .0) (s .pre .1) (s .pre .2) (s .pre .3) (v .uncommented .result) (v .uncommented .ensures) (g .geometry-turn .result) (g .geometry-turn .last .1 .1 .1 .1 .0) (geometry-code _ (e .if3 .left) (g .before .before .before .if4 .taken) (n .0 .0 .1) (n .0 .1)) (g .geometry-turn .ensures)
 
 same-length-3 : tie.Need-same-length-3
 same-length-3 c = search needs
 
-returns-8 : tie.Need-returns-8
-returns-8 c = let w = c .before .before in let q = w .before .before .before in let n = q .before .match2 .rest in let v = q .before .before in let j = v .before .before in let m = j .before .match .rest in let s = j .before .before .before .before in let o = outside (s .args .p .running) (⊎-elim (λ x. inl (x .taken)) (λ x. inr (x .1 .left)) (j .if1 .came)) in value-list (s .args .block .now) (s .args .at) (s .args .from) (s .args .end) (s .args .u) (s .args .p) (s .args .scratch .now) (s .pre .0) (s .pre .1) (s .pre .2) (s .pre .3) (v .uncommented .result) (v .uncommented .ensures) (w .list-turn .result) (w .list-turn .last .1 .1 .1 .1 .1 .0) (list-code _ (s .pre .1 .code) (m .0 .1) (m .1) (o .0) (o .1) (n .0 .0 .0 .1) (n .0 .0 .1) (n .0 .1) (n .1) (no-geometry _ (s .pre .1 .code) (⊎-elim (λ x. inl (x .taken)) (λ x. inr (x .1 .left)) (q .if3 .came)))) (s .pre .4 .low) (w .list-turn .ensures .0, w .list-turn .ensures .1)
+returns-9 : tie.Need-returns-9
+returns-9 c = let w = c .before .before in let q = w .before .before .before in let n = q .before .match2 .rest in let v = q .before .before in let j = v .before .before in let m = j .before .match .rest in let s = j .before .before .before .before in let o = outside (s .args .p .running) (⊎-elim (λ x. inl (x .taken)) (λ x. inr (x .1 .left)) (j .if1 .came)) in value-list (s .args .block .now) (s .args .at) (s .args .from) (s .args .end) (s .args .u) (s .args .p) (s .args .scratch .now) (s .pre .0) (s .pre .1) (s .pre .2) (s .pre .3) (v .uncommented .result) (v .uncommented .ensures) (w .list-turn .result) (w .list-turn .last .1 .1 .1 .1 .1 .0) (list-code _ (s .pre .1 .code) (m .0 .1) (m .1) (o .0) (o .1) (n .0 .0 .0 .0 .1) (n .0 .0 .0 .1) (n .0 .0 .1) (n .0 .1) (no-geometry _ (s .pre .1 .code) (⊎-elim (λ x. inl (x .taken)) (λ x. inr (x .1 .left)) (q .if3 .came)) (n .1))) (s .pre .4 .low) (w .list-turn .ensures .0, w .list-turn .ensures .1)
 
 pub value-turn-spec : {M : Type 1} → statement M
 value-turn-spec =
@@ -133,6 +148,10 @@ value-turn-spec =
     part-id-turn-end
     id-turn-requires
     end-turn-requires
+    sub-yes-turn
+    part-yes-turn-start
+    part-yes-turn-end
+    yes-turn-requires
     sub-geometry-turn
     part-geometry-turn-start
     part-geometry-turn-end
@@ -146,7 +165,8 @@ value-turn-spec =
     returns-5
     same-length
     returns-6
-    same-length-2
     returns-7
+    same-length-2
+    returns-8
     same-length-3
-    returns-8)
+    returns-9)

@@ -26,6 +26,12 @@ none-negative-requires c κs = search needs
 returns-2 : tie.Need-returns-2
 returns-2 c = pass _ _ (c .before .before .before .before .counts-fine .ensures) _ _ (c .before .before .before .if1 .left) (stop _ _ (c .before .none-negative .ensures) _ (c .if2 .taken)) ∙ header-is (c .before .before .before .before .before .args .table .now)
 
+handed-fine-requires : tie.Need-handed-fine-requires
+handed-fine-requires c κs = search needs
+
+returns-3 : tie.Need-returns-3
+returns-3 c = pass _ _ (c .before .before .before .before .before .before .counts-fine .ensures) _ _ (c .before .before .before .before .before .if1 .left) (pass _ _ (c .before .before .before .none-negative .ensures) _ _ (c .before .before .if2 .left) (stop _ _ (c .before .handed-fine .ensures) _ (c .if3 .taken))) ∙ header-is (c .before .before .before .before .before .before .before .args .table .now)
+
 sub-all-zero : tie.Need-sub-all-zero
 sub-all-zero c = search needs
 
@@ -38,8 +44,8 @@ part-all-zero-end c = search needs
 all-zero-requires : tie.Need-all-zero-requires
 all-zero-requires c κs = search needs
 
-returns-3 : tie.Need-returns-3
-returns-3 c = pass _ _ (c .before .before .before .before .before .before .counts-fine .ensures) _ _ (c .before .before .before .before .before .if1 .left) (pass _ _ (c .before .before .before .none-negative .ensures) _ _ (c .before .before .if2 .left) (c .all-zero .ensures)) ∙ header-is (c .before .before .before .before .before .before .before .args .table .now)
+returns-4 : tie.Need-returns-4
+returns-4 c = pass _ _ (c .before .before .before .before .before .before .before .before .counts-fine .ensures) _ _ (c .before .before .before .before .before .before .before .if1 .left) (pass _ _ (c .before .before .before .before .before .none-negative .ensures) _ _ (c .before .before .before .before .if2 .left) (pass _ _ (c .before .before .before .handed-fine .ensures) _ _ (c .before .before .if3 .left) (c .all-zero .ensures))) ∙ header-is (c .before .before .before .before .before .before .before .before .before .args .table .now)
 
 pub header-fine-spec : {M : Type 1} → statement M
 header-fine-spec =
@@ -52,8 +58,10 @@ header-fine-spec =
     part-none-negative-end
     none-negative-requires
     returns-2
+    handed-fine-requires
+    returns-3
     sub-all-zero
     part-all-zero-start
     part-all-zero-end
     all-zero-requires
-    returns-3)
+    returns-4)

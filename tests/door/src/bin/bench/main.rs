@@ -141,7 +141,7 @@ fn beside(files: &[File], other: &Proved, proved: &Proved, tuned: &Column) {
     println!("| file | walk | | check | | read | | write | | read / tuned | |");
     println!("|---|---|---|---|---|---|---|---|---|---|---|");
     for file in files {
-        if file.coordinates && !other.reads_positions {
+        if file.newer && !other.reads_positions {
             println!(
                 "| {} | left out: the other library skips the records of coordinates {}|",
                 file.name,

@@ -2,6 +2,7 @@
 
 use galebonnet::door;
 use galebonnet_tests::generate::coordinates::refused_by_coordinates;
+use galebonnet_tests::generate::helical::refused_by_helical;
 use galebonnet_tests::independent;
 
 use super::held::{Guarded, Held};
@@ -31,6 +32,7 @@ pub fn compared(held: &mut Held, name: &str, block: &[u8], (numbers, floats): (u
     let read = door::read(lent.part(), table.part_mut(), positions.part_mut());
     let answer = independent::read(block, wanted.part_mut(), wanted_positions.part_mut());
     held.read(answer.number, refused_by_coordinates(block, answer));
+    held.helical(refused_by_helical(block, answer));
     held.same(&format!("{name}, read"), block, read, (answer.number, answer.place));
     held.same_list(&format!("{name}, table"), block, &table.all, &wanted.all);
     held.same_list(&format!("{name}, positions"), block, &positions.bits(), &wanted_positions.bits());

@@ -1,7 +1,7 @@
 //! What was compared and what differed, and the guards around what is lent.
 
 use std::collections::BTreeMap;
-use std::fmt::Debug;
+use std::fmt::{Debug, Display};
 use std::ops::Range;
 
 /// At most so many differences are printed.
@@ -16,6 +16,7 @@ pub struct Held {
     differ: u64,
     readings: BTreeMap<u32, u64>,
     by_coordinates: BTreeMap<u32, u64>,
+    by_helical: BTreeMap<&'static str, u64>,
     writings: BTreeMap<u32, u64>,
 }
 
@@ -25,6 +26,13 @@ impl Held {
         *self.readings.entry(number).or_default() += 1;
         if let Some(number) = by_coordinates {
             *self.by_coordinates.entry(number).or_default() += 1;
+        }
+    }
+
+    /// Counts a refusal that STEREOMOLECULE gave to a block, or number 13 to a table.
+    pub fn helical(&mut self, refusal: Option<&'static str>) {
+        if let Some(refusal) = refusal {
+            *self.by_helical.entry(refusal).or_default() += 1;
         }
     }
 
@@ -76,14 +84,15 @@ impl Held {
         println!("{} blocks, {} files, {} tables, seed {seed}", self.blocks, self.files, self.tables);
         println!("answers to blocks: {}", shown(&self.readings));
         println!("refused by the records of coordinates: {}", shown(&self.by_coordinates));
+        println!("refused by STEREOMOLECULE: {}", shown(&self.by_helical));
         println!("answers to tables: {}", shown(&self.writings));
         println!("compare: {} passed, {} failed", self.compared - self.differ, self.differ);
         i32::from(self.differ > 0)
     }
 }
 
-fn shown(answers: &BTreeMap<u32, u64>) -> String {
-    answers.iter().map(|(number, times)| format!("{number} x{times}")).collect::<Vec<String>>().join(" ")
+fn shown<Answer: Display>(answers: &BTreeMap<Answer, u64>) -> String {
+    answers.iter().map(|(answer, times)| format!("{answer} x{times}")).collect::<Vec<String>>().join(", ")
 }
 
 /// How many elements stand before and behind a lent part.

@@ -3,8 +3,8 @@
 //! `compare CASES SEED TABLES`, from the project's root, runs the named blocks and then CASES generated cases, ten blocks to one transfer file, and compares: number and
 //! place of check and read, every number of the table, every bit of the positions, the name; the walk from many places of a file; and what stands around everything lent.
 //! Then it writes the samples' tables and TABLES generated ones, sound, disturbed and extreme: number, count, whole buffer; and what was written is read again.
-//! `compare coordinates CASES SEED` runs CASES generated blocks with coordinates and nothing else. It prints what differs, how often each refusal occurred, and a closing
-//! line.
+//! `compare coordinates CASES SEED` runs CASES generated blocks with coordinates and nothing else; `compare helical CASES SEED` CASES generated blocks with STEREOMOLECULE,
+//! for each four a table with number 13 set and for each ten a transfer file of such blocks. It prints what differs, how often each refusal occurred, and a closing line.
 
 mod blocks;
 mod files;
@@ -20,28 +20,36 @@ use galebonnet_tests::generate::{self, Random};
 use held::Held;
 
 fn main() {
-    let mut words: Vec<String> = env::args().skip(1).collect();
-    let coordinates = words.first().is_some_and(|word| word == "coordinates");
-    let numbers: Option<Vec<u64>> =
-        words.drain(usize::from(coordinates)..).map(|word| word.parse().ok()).collect();
+    let words: Vec<String> = env::args().skip(1).collect();
     let mut held = Held::default();
-    let seed = match (coordinates, numbers.as_deref()) {
-        (true, Some(&[cases, seed])) => {
-            generated_coordinates(&mut held, cases, seed);
-            seed
+    let seed = match words.iter().map(String::as_str).collect::<Vec<_>>()[..] {
+        ["coordinates", cases, seed] => {
+            generated_coordinates(&mut held, asked(cases), asked(seed));
+            asked(seed)
         }
-        (false, Some(&[cases, seed, tables])) => {
-            everything(&mut held, cases, seed, tables);
-            seed
+        ["helical", cases, seed] => {
+            generated_helical(&mut held, asked(cases), asked(seed));
+            asked(seed)
         }
-        _ => {
-            eprintln!(
-                "usage, from the project's root: compare CASES SEED TABLES | compare coordinates CASES SEED"
-            );
-            exit(2);
+        [cases, seed, tables] => {
+            everything(&mut held, asked(cases), asked(seed), asked(tables));
+            asked(seed)
         }
+        _ => usage(),
     };
     exit(held.report(seed));
+}
+
+fn usage() -> ! {
+    eprintln!(
+        "usage, from the project's root: compare CASES SEED TABLES | compare coordinates CASES SEED | compare helical CASES SEED"
+    );
+    exit(2)
+}
+
+/// A number of the command line.
+fn asked(word: &str) -> u64 {
+    word.parse().unwrap_or_else(|_| usage())
 }
 
 fn everything(held: &mut Held, cases: u64, seed: u64, tables: u64) {
@@ -74,6 +82,21 @@ fn generated_coordinates(held: &mut Held, cases: u64, seed: u64) {
     for case in 0..cases {
         let block = generate::coordinate_block(&mut random);
         blocks::compared(held, "generated with coordinates", &block, lent(case));
+    }
+}
+
+fn generated_helical(held: &mut Held, cases: u64, seed: u64) {
+    let mut random = Random::new(seed);
+    for case in 0..cases {
+        let block = generate::helical_block(&mut random);
+        blocks::compared(held, "generated with STEREOMOLECULE", &block, lent(case));
+        if case % 4 == 3 {
+            tables::compared(held, &generate::helical_table_case(&mut random));
+        }
+        if case % 10 == 9 {
+            let file = generate::helical_file(&mut random);
+            files::compared(held, &mut random, &file);
+        }
     }
 }
 
