@@ -1,6 +1,6 @@
 -- Every coordinate that a block gives is near: a row's values have at most six digits, a factor at most nine with at most nine behind its point. Document 02, L2.
 -- Assumes nothing.
-use Prim.Native.Nat.{ℕ, zero, suc, _+_, _-_, _^_, _≤_, _<_}
+use Prim.Native.Nat.{ℕ, suc, _-_, _^_, _≤_, _<_}
 use mathlib.Core.Path.{_≡_, refl, sym, ap, _∙_}
 use mathlib.Core.Bool.{Bool, true, false, _&&_}
 use mathlib.Core.Option.{Option, none, some}
@@ -20,7 +20,7 @@ use Rattle.format.specs.Rows.{_andThen_, digitsOf, number, natural, negative, s
 use Rattle.format.specs.Coordinates.{XyzRow, xyzShape, Factor, factor, factorShape, unpointed}
 use Rattle.format.specs.Reading.{onlyField}
 use Rattle.format.proofs.NumberLaws.{number-bound, digits-of-bound}
-use Rattle.format.proofs.CoordinateLaws.{coordinate-near}
+use Rattle.format.proofs.CoordinateLaws.{abs-neg, coordinate-near}
 use Rattle.demands.specs.Accepted.{listed, rowOn, valueIn, lineIn, toldOf, firstOr, xyzRows, factorIn}
 use Rattle.demands.specs.Positions.{NearAt, AllNear}
 use Rattle.demands.proofs.AcceptedSoundShapes.{none-some, some-same}
@@ -28,10 +28,6 @@ use Rattle.demands.proofs.AcceptedSoundShapes.{none-some, some-same}
 -- A SIGNED NUMBER of at most six digits
 abbrev small : ℤ → Bool
 small v = leb (natAbs v) 999999
-
-abs-neg : (n : ℕ) → natAbs (negℤ (pos n)) ≡ n
-abs-neg zero = refl
-abs-neg (suc n) = refl
 
 natural-small : (w : Bytes) (v : ℤ) → natural w ≡ some v → small v ≡ true
 unfolding natural

@@ -8,11 +8,11 @@ use native.Mathlib.Omega.{arith}
 use native.Mathlib.Nat.{min-eq-right}
 use lib.ListN.{length, take, drop, length-append}
 use lib.Seq.{take-at, drop-at, drop-drop}
-use lib.IntN.{ℤ, pos, negsuc, natAbs}
+use lib.IntN.{ℤ, pos, natAbs}
 use lib.Dec.{eqb}
 use borrow.Author.Tests.{le-ltb}
 use Rattle.lists.specs.Lists.{all, pairs, sameBy, flat, filled, rowsFrom}
-use Rattle.lists.proofs.Bools.{and-both, eqb-same}
+use Rattle.lists.proofs.Bools.{and-both}
 use Rattle.lists.proofs.PartLaws.{filled-is, filled-length}
 use Rattle.lists.proofs.PairLaws.{sameBy-refl}
 use Rattle.lists.proofs.RegionLaws.{filled-back}
@@ -28,6 +28,7 @@ use Rattle.demands.proofs.WayBack.{Fine, fine-structure, way-back}
 use Rattle.demands.proofs.WayBackMembers.{spread-rows}
 use Rattle.demands.proofs.WayBackDecoded.{row-wide, bond-back, centre-back, pair-back, part-long, spread-fine, recordsOf, records-taken, records-atoms, records-long, charge-marks, radical-marks, cells-long, values-charges, values-radicals, values-taken, no-group}
 use Rattle.format.proofs.RefusedLaws.{long-read}
+use Rattle.format.proofs.TableLaws.{number-self}
 
 -- a structure from its eight parts
 decoded-by : (t : List ℤ) (s : Structure) → map atomAt (atomRecords t) ≡ s .atoms → rowsFrom 3 bondAt (countAt t 1 512) (drop 1296 t) ≡ s .bonds →
@@ -189,10 +190,6 @@ module _ (k : ℕ) (s : Structure) (ok : Fine k s) (a b c : Span) (beyond : List
         long Pairs,
       )
 
-  same-self : (x : ℤ) → sameNumber x x ≡ true
-  same-self (pos n) = eqb-same n
-  same-self (negsuc n) = eqb-same n
-
   -- SOUND, with the bytes that its texts stand in
   pub encoded-sound : wellFormed k s ≡ true → (block : Bytes) → all (textOk block) (a ∷ b ∷ c ∷ []) ≡ true → sound k table block ≡ true
   unfolding sound soundNumbers
@@ -200,7 +197,7 @@ module _ (k : ℕ) (s : Structure) (ok : Fine k s) (a b c : Span) (beyond : List
       and-both (wellFormed k (decode table) && sameBy sameNumber (encode (decode table) (spansOf table)) (take 3856 table)) (all (textOk block) (spansOf table))
       (and-both (wellFormed k (decode table)) _ (ap (wellFormed k) decode-back ∙ fine)
       (ap (λ (x : Structure). sameBy sameNumber (encode x (spansOf table)) (take 3856 table)) decode-back ∙ ap (λ (l : List Span). sameBy sameNumber (encode s l) (take 3856 table)) spans-back
-      ∙ ap (sameBy sameNumber numbers) (take-at numbers beyond 3856 numbers-long) ∙ sameBy-refl sameNumber same-self numbers))
+      ∙ ap (sameBy sameNumber numbers) (take-at numbers beyond 3856 numbers-long) ∙ sameBy-refl sameNumber number-self numbers))
       (ap (all (textOk block)) spans-back ∙ texts)
 
   pub table-long : 3856 ≤ length table

@@ -7,10 +7,10 @@ use mathlib.Core.List.{List, [], _∷_, map}
 use native.Mathlib.Omega.{arith}
 use lib.ListN.{length, take, drop, length-drop}
 use lib.Seq.{length-take-le}
-use lib.IntN.{ℤ, pos, negsuc}
-use borrow.Author.Tests.{eqb-true, leb-true}
+use lib.IntN.{ℤ}
+use borrow.Author.Tests.{leb-true}
 use Rattle.lists.specs.Lists.{all, sameBy, flat, rowsFrom}
-use Rattle.lists.proofs.Bools.{torn, and-parts}
+use Rattle.lists.proofs.Bools.{and-parts}
 use Rattle.lists.proofs.ListLaws.{all-parts, all-imply}
 use Rattle.lists.proofs.PartLaws.{all-map}
 use Rattle.lists.proofs.PairLaws.{sameBy-eq}
@@ -21,16 +21,11 @@ use Rattle.format.specs.Table.{counts, encode, decode, spanAt, spansOf, sameNum
 use Rattle.format.specs.Writing.{formOf}
 use Rattle.demands.specs.WayBack.{ReadBack, TableBack, withoutStarts}
 use Rattle.format.proofs.RefusedLaws.{long-read}
+use Rattle.format.proofs.TableLaws.{number-equal}
 use Rattle.demands.proofs.WayBack.{fine-structure, way-back}
 use Rattle.demands.proofs.WayBackSound.{form-written, encoded-sound}
 
 -- A SOUND TABLE is that of its structure, with texts that are fine
-number-equal : (x y : ℤ) → sameNumber x y ≡ true → x ≡ y
-number-equal (pos m) (pos n) h = ap pos (eqb-true m n h)
-number-equal (pos m) (negsuc n) h = torn false h refl
-number-equal (negsuc m) (pos n) h = torn false h refl
-number-equal (negsuc m) (negsuc n) h = ap negsuc (eqb-true m n h)
-
 pub record Sound (k : ℕ) (t : List ℤ) (b : Bytes) : Type 0 where
   pub structure : wellFormed k (decode t) ≡ true
   pub numbers : encode (decode t) (spansOf t) ≡ take 3856 t

@@ -6,6 +6,7 @@ pub mod PositionLaws
 pub mod Tables
 pub mod Places
 pub mod PlaceLaws
+pub mod TableLaws
 pub mod CutLaws
 pub mod LeadLaws
 pub mod ReadingLaws

@@ -195,7 +195,7 @@ pub bonds-stay : (block : Bytes) (at atoms bonds : ℕ) (t₀ t region : List �
 bonds-stay block at atoms bonds t₀ t region r e ran = subst (λ (s : List ℕ). BondsRan block at atoms bonds t₀ s r) (sym (ap (putMid 1410 1024 t) e ∙ put-same 1410 1024 t)) ran
 
 -- THE LIST THAT RUNS
-seen-some : (seen : List Label) (top : ℕ) → top ≡ topOf seen → (top ≡ 0 → ⊥) → isNil seen ≡ false
+pub seen-some : (seen : List Label) (top : ℕ) → top ≡ topOf seen → (top ≡ 0 → ⊥) → isNil seen ≡ false
 unfolding topOf
 seen-some [] top e z = absurd (z e)
 seen-some (x ∷ xs) top e z = refl

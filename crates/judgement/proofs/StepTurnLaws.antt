@@ -82,26 +82,17 @@ abbrev pub GeometryPromise : (at : ℕ) → Progress → List ℕ → Turn → L
 GeometryPromise at p t r s fs =
     (length s ≡ 2973) × KeptTurn p r × ((k : ℕ) (block : Bytes) (st : State) → Shows k block at p t st → ShowsTurn k block at r s (xyzValue (recordOf (p .running)) st fs))
 
-value-at-14 : (u : Rules) (from : ℕ) (v : Bytes) (st : State) → valueTurn u (byCode 14 known .holds) st from v ≡ xyzValue (recordOf 14) st (fields (strip v))
+geometry-value : (u : Rules) (i from : ℕ) (v : Bytes) (st : State) → i ≤ 2 → valueTurn u (byCode (14 + i) known .holds) st from v ≡ xyzValue (recordOf (14 + i)) st (fields (strip v))
 unfolding byCode known label valueTurn
-value-at-14 u from v st = refl
-
-value-at-15 : (u : Rules) (from : ℕ) (v : Bytes) (st : State) → valueTurn u (byCode 15 known .holds) st from v ≡ xyzValue (recordOf 15) st (fields (strip v))
-unfolding byCode known label valueTurn
-value-at-15 u from v st = refl
-
-value-at-16 : (u : Rules) (from : ℕ) (v : Bytes) (st : State) → valueTurn u (byCode 16 known .holds) st from v ≡ xyzValue (recordOf 16) st (fields (strip v))
-unfolding byCode known label valueTurn
-value-at-16 u from v st = refl
+geometry-value u zero from v st h = refl
+geometry-value u (suc zero) from v st h = refl
+geometry-value u (suc (suc zero)) from v st h = refl
+geometry-value u (suc (suc (suc i))) from v st h = absurd (omega arith)
 
 value-as-geometry : (u : Rules) (n from : ℕ) (v : Bytes) (st : State) → 14 ≤ n → n ≤ 16 → valueTurn u (byCode n known .holds) st from v ≡ xyzValue (recordOf n) st (fields (strip v))
-value-as-geometry u n from v st a z = by (n - 14) (omega arith) (omega arith)
-  where
-    by : (i : ℕ) → n ≡ 14 + i → i ≤ 2 → valueTurn u (byCode n known .holds) st from v ≡ xyzValue (recordOf n) st (fields (strip v))
-    by zero e h = ap (λ (m : ℕ). valueTurn u (byCode m known .holds) st from v) e ∙ value-at-14 u from v st ∙ ap (λ (m : ℕ). xyzValue (recordOf m) st (fields (strip v))) (sym e)
-    by (suc zero) e h = ap (λ (m : ℕ). valueTurn u (byCode m known .holds) st from v) e ∙ value-at-15 u from v st ∙ ap (λ (m : ℕ). xyzValue (recordOf m) st (fields (strip v))) (sym e)
-    by (suc (suc zero)) e h = ap (λ (m : ℕ). valueTurn u (byCode m known .holds) st from v) e ∙ value-at-16 u from v st ∙ ap (λ (m : ℕ). xyzValue (recordOf m) st (fields (strip v))) (sym e)
-    by (suc (suc (suc i))) e h = absurd (omega arith)
+value-as-geometry u n from v st a z =
+    let e : n ≡ 14 + (n - 14) = omega arith in
+    ap (λ (m : ℕ). valueTurn u (byCode m known .holds) st from v) e ∙ geometry-value u (n - 14) from v st (omega arith) ∙ ap (λ (m : ℕ). xyzValue (recordOf m) st (fields (strip v))) (sym e)
 
 -- STEREOMOLECULE: what its line promises, on the label line and behind it
 abbrev pub YesPromise : (at : ℕ) → Progress → Turn → List Bytes → Type 0

@@ -1,5 +1,5 @@
 -- The records of a block's geometry in the whole scratch: a line of theirs, the last tests of END, and the rows of XYZ behind a line. Document 02, L2. Assumes nothing.
-use Prim.Native.Nat.{ℕ, zero, suc, _≤_, _<_}
+use Prim.Native.Nat.{ℕ, _≤_}
 use mathlib.Core.Path.{_≡_, refl, sym, ap, _∙_, subst}
 use mathlib.Core.Bool.{Bool, true, false}
 use mathlib.Core.List.{List, [], _∷_}
@@ -7,14 +7,13 @@ use native.Mathlib.Omega.{arith}
 use lib.ListN.{length, take, drop}
 use lib.IntN.{ℤ}
 use borrow.Rule.Slice.PartMut.{putMid}
-use Rattle.lists.specs.Lists.{isNil}
 use Rattle.format.specs.Bytes.{Bytes, fields}
-use Rattle.format.specs.Labels.{XyzRows, Xyz, Label, label, known, lookup}
+use Rattle.format.specs.Labels.{XyzRows, Xyz, Label, label, known}
 use Rattle.format.specs.Coordinates.{XyzRow, Geometry}
 use Rattle.format.specs.Reading.{Rules, State, if_stop_else_, withGeometry, partly, xyzValue}
 use Rattle.format.specs.Reading.{Go as going, Stop as stopping, Turn as Turned}
 use Rattle.labels.specs.ShownLines.{byCode}
-use Rattle.sorted.specs.Regions.{seenFrom, topOf}
+use Rattle.sorted.specs.Regions.{seenFrom}
 use Rattle.sorted.specs.GeometryRegion.{geometryRegion, GeometryFine}
 use Rattle.sorted.proofs.GeometryLaws.{fine-up}
 use Rattle.coordinates.specs.KeptRows.{Stored}
@@ -32,6 +31,7 @@ use Rattle.gather.specs.declared.progress.Turn.{Turn}
 use Rattle.gather.specs.declared.progress.Turn.the-variants.{Go, Stop}
 use Rattle.gather.proofs.LaidLaws.{sized, seen-seated, geometry-seated}
 use Rattle.gather.proofs.TurnLaws.{put-long, part-long}
+use Rattle.gather.proofs.RunLaws.{seen-some}
 use Rattle.judgement.specs.Lines.{KeptTurn, geometryEnd}
 use Rattle.judgement.specs.Placing.{StoredBefore, Placed, RowsPlaced}
 
@@ -115,11 +115,6 @@ module _ (at : ℕ) (p : Progress) (t : List ℕ) (c : Counted p) (some : Bool) 
     end-passes f = (refl, λ k block st h. rw (end-is k block st h false f) h)
 
 -- THE ROWS BEHIND A LINE
-seen-later : (seen : List Label) (top : ℕ) → top ≡ topOf seen → (top ≡ 0 → ⊥) → isNil seen ≡ false
-unfolding topOf
-seen-later [] top e z = absurd (z e)
-seen-later (x ∷ xs) top e z = refl
-
 xyz-held : byCode 16 known .holds ≡ Xyz XyzRows
 unfolding byCode known label
 xyz-held = refl
@@ -149,7 +144,7 @@ module _ (block : Bytes) (at top atoms : ℕ) (t : List ℕ) (store₀ store : L
         → Placed u k block at r p (putMid 2964 9 t region) after st
     rows-on u k p st c a b d h s =
         let x : XyzReached u block at r atoms region after st =
-        ran .goes u st (h .place) (h .running ∙ ap (λ (n : ℕ). byCode n known .holds) d ∙ xyz-held) (seen-later (st .seen) (p .top) (h .top) (λ z. some (sym a ∙ z))) (h .holding .listed .atoms ∙ b)
+        ran .goes u st (h .place) (h .running ∙ ap (λ (n : ℕ). byCode n known .holds) d ∙ xyz-held) (seen-some (st .seen) (p .top) (h .top) (λ z. some (sym a ∙ z))) (h .holding .listed .atoms ∙ b)
         (subst (λ (n : ℕ). n ≤ 256) b (c .atoms)) (geometry-part k block at p t st c h) (subst (λ (n : ℕ). GeometryFine n (st .geometry)) b (h .holding .geometry)) (here k p st c h s)
         in
         record {

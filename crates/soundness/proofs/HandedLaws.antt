@@ -9,26 +9,16 @@ use lib.ListN.{length, take, drop, replicate, length-drop}
 use lib.Seq.{length-take-le, drop-cons}
 use lib.IntN.{ℤ, pos, negsuc, natAbs}
 use lib.Dec.{eqb, leb}
-use borrow.Author.Tests.{eqb-true, ne-eqb, lt-leb}
+use borrow.Author.Tests.{ne-eqb, lt-leb}
 use Rattle.lists.specs.Lists.{isNil, all, rowsFrom}
-use Rattle.lists.proofs.Bools.{torn, and-parts, and-both, and-left-false, and-right-false, eqb-same}
+use Rattle.lists.proofs.Bools.{and-parts, and-both, and-left-false, and-right-false}
 use Rattle.format.specs.Bytes.{within}
 use Rattle.format.specs.Structure.{ranging, handedTwice}
 use Rattle.format.specs.Table.{cell, markedAt, flag, derived, sameNumber}
+use Rattle.format.proofs.TableLaws.{number-equal, number-self}
 use Rattle.soundness.specs.Sounding.{numberAt, unused, handedFine}
 use Rattle.soundness.proofs.SplitLaws.{ranging-pos, unused-is}
 use Rattle.soundness.proofs.HeaderLaws.{shown}
-
--- THE SAME NUMBER
-pub number-equal : (x y : ℤ) → sameNumber x y ≡ true → x ≡ y
-number-equal (pos m) (pos i) h = ap pos (eqb-true m i h)
-number-equal (pos m) (negsuc i) h = torn false h refl
-number-equal (negsuc m) (pos i) h = torn false h refl
-number-equal (negsuc m) (negsuc i) h = ap negsuc (eqb-true m i h)
-
-pub number-self : (x : ℤ) → sameNumber x x ≡ true
-number-self (pos m) = eqb-same m
-number-self (negsuc m) = eqb-same m
 
 -- ONE NUMBER: 0, or 1 in a table with no other handedness; -1 has the size of 1, and is not fine
 below-zero : (handed : Bool) (n : ℕ) → sameNumber (flag handed) (negsuc n) ≡ false

@@ -21,6 +21,7 @@ use Rattle.format.specs.Labels.{ListOf, Bonds, Charges, Radicals, Centres, Pair
 use Rattle.format.specs.Rows.{Row}
 use Rattle.format.specs.Structure.{Atom, Structure, rowsOf, most, atomOk, wellFormed}
 use Rattle.format.specs.Table.{cell, base, width, rowWith, atomCells, rowCells, rowsPart, spanCells, encode, markedAt, bondAt, spreadAt, decode, spansOf, sameNumber, soundNumbers}
+use Rattle.format.proofs.TableLaws.{number-equal, number-self}
 use Rattle.soundness.specs.Numbered.{column, columnOf}
 use Rattle.soundness.specs.Sounding.{unused, headerFine, countsFine, placesFine, handedFine, atomFine, atomsFine, recordKey, recordsFine, keyedFine, bondsFine, centresFine, pairsFine, valuesFine, chargesFine, radicalsFine, listsFine, regionsFine}
 use Rattle.soundness.proofs.NumberedLaws.{column-at, column-length, row-back}
@@ -32,7 +33,7 @@ use Rattle.soundness.proofs.RecordLaws.{bonds-say, centres-say, pairs-s
 use Rattle.soundness.proofs.AtomLaws.{records, atoms-there, atoms-back, columns-fine}
 use Rattle.soundness.proofs.ListLaws.{FineList, list-parts, list-test, keyed-region, region-keyed, charges-spread, radicals-spread, spread-many, spread-region, region-spread}
 use Rattle.soundness.proofs.HeaderLaws.{shown, decode-shown, atoms-many, Header, counts-parts, counts-both, header-counted, counts-there, counts-back, places-there, places-back}
-use Rattle.soundness.proofs.HandedLaws.{number-equal, number-self, handed-there, derived-there, derived-back}
+use Rattle.soundness.proofs.HandedLaws.{handed-there, derived-there, derived-back}
 use Rattle.soundness.proofs.LaidLaws.{WellMade, made-of, made-back, Laid, first-part, laid-of, laid-back}
 
 -- FIVE NUMBERS AN ATOM
