@@ -95,6 +95,8 @@ uint64_t galebonnet_read(const uint8_t *block, size_t length, int32_t *table, si
  * 21 it is not sound (no atom, or a count, range, order, clash or zero rule broken, number 13 set beside a centre or a pair, or a text out of bounds, untrimmed,
  * with a byte not allowed, or with `##` right after a line feed); 23 the form would pass 32,768 bytes; 22 the buffer is shorter than the form. Numbers beyond
  * 3,856 are not looked at. A table that galebonnet_read filled is sound with the bytes of its block; a buffer of GALEBONNET_BLOCK bytes is never too short.
+ * The form's formula comes of the atoms and bonds, not of the formula that was read: one fragment for each group of atoms that bonds of kinds 1 to 4 join, 5 (A)
+ * not counting, in the order of their lowest atoms, parted by ` * `; an atom without such a bond is a fragment, and implied hydrogens stand with their atom.
  * Reading the form gives the same table but for the three places where its texts start, and the same texts. Positions are not written: the form has none. */
 uint64_t galebonnet_write(const int32_t *table, size_t numbers, const uint8_t *texts, size_t texts_length, uint8_t *buffer, size_t room);
 

@@ -1,15 +1,16 @@
 //! The examples of docs/DECISIONS.md are run, table by table, by what its first two columns are
 //! headed: a block's answer, its answer and what is left in a lent table or in both, an atom's
-//! position, what is written of its table with another number 13, the block's name to show, the number
-//! that the C door answers, and the lines that the program prints for a file.
+//! position, what is written of its table with another number 13, the formula that is written of it, the
+//! block's name to show, the number that the C door answers, and the lines that the program prints for a
+//! file.
 //!
-//! Notation of a block or file, in backticks: bytes with the escapes \n \r \t \\ \xHH and \p for a
-//! vertical bar, and \{1-9:text} for a text once for each of these numbers, \i in it the number; or
-//! `@PLACE: text`, neon with the line at that place replaced; `@PLACE-`, neon without it;
-//! `@88+ text`, neon with text behind it.
+//! The notation of a block or file stands in `notation`.
 
-use galebonnet_tests::generate::neon::{followed, removed, replaced, NEON};
+mod notation;
+
+use galebonnet_tests::generate::neon::NEON;
 use galebonnet_tests::independent::{check, name, position, read, read_table, walk_lines, write, Position};
+use notation::{meant, quoted, unescaped};
 use std::str::FromStr;
 
 /// What a table's examples are run against, by its header; the last column is the other reading.
@@ -20,17 +21,19 @@ enum Run {
     BothLent,
     Position,
     Written,
+    Formula,
     Name,
     Door,
     Walk,
 }
 
-const HEADERS: [([&str; 3], Run); 8] = [
+const HEADERS: [([&str; 3], Run); 9] = [
     (["block", "answer", "other reading"], Run::Answer),
     (["block and numbers lent", "answer and table", "other reading"], Run::Lent),
     (["block, numbers and floats lent", "answer and both tables", "other reading"], Run::BothLent),
     (["block and atom", "position", "other reading"], Run::Position),
     (["block and number 13", "last two lines written, or refusal", "other reading"], Run::Written),
+    (["block", "written formula", "other reading"], Run::Formula),
     (["block", "name to show, `?` the stand-in", "other reading"], Run::Name),
     (["block", "number at the C door", "other reading"], Run::Door),
     (["file", "walk prints", "other reading"], Run::Walk),
@@ -42,71 +45,6 @@ const POSITIONS: usize = 1024;
 
 /// What every number and float of a lent table is before the reading.
 const BEFORE: i32 = 7;
-
-/// The bytes of a text with escapes.
-fn unescaped(text: &str) -> Result<Vec<u8>, String> {
-    let mut bytes = Vec::new();
-    let mut rest = text.bytes();
-    while let Some(byte) = rest.next() {
-        if byte != b'\\' {
-            bytes.push(byte);
-            continue;
-        }
-        bytes.push(match rest.next() {
-            Some(b'n') => b'\n',
-            Some(b'r') => b'\r',
-            Some(b't') => b'\t',
-            Some(b'p') => b'|',
-            Some(b'\\') => b'\\',
-            Some(b'{') => {
-                let inside: Vec<u8> = rest.by_ref().take_while(|&byte| byte != b'}').collect();
-                bytes.extend(repeated(&String::from_utf8_lossy(&inside))?);
-                continue;
-            }
-            Some(b'x') => {
-                let digits: String = rest.by_ref().take(2).map(char::from).collect();
-                let is_hex = digits.len() == 2 && digits.bytes().all(|digit| digit.is_ascii_hexdigit());
-                let value = u8::from_str_radix(&digits, 16).ok().filter(|_| is_hex);
-                value.ok_or(format!("no byte: \\x{digits}"))?
-            }
-            other => return Err(format!("no escape: {:?}", other.map(char::from))),
-        });
-    }
-    Ok(bytes)
-}
-
-/// The bytes of `FROM-TO:text`: the text once for each number, in which `\i` is the number.
-fn repeated(notation: &str) -> Result<Vec<u8>, String> {
-    let parts = notation.split_once(':').and_then(|(range, text)| Some((range.split_once('-')?, text)));
-    let ((from, to), text) = parts.ok_or(format!("no FROM-TO:text: {notation}"))?;
-    let number = |digits: &str| digits.parse::<usize>().map_err(|_| format!("no number: {digits}"));
-    let mut bytes = Vec::new();
-    for one in number(from)?..=number(to)? {
-        bytes.extend(unescaped(&text.replace("\\i", &one.to_string()))?);
-    }
-    Ok(bytes)
-}
-
-/// The bytes that a cell's notation means.
-fn meant(notation: &str) -> Result<Vec<u8>, String> {
-    let Some(rest) = notation.strip_prefix('@') else { return unescaped(notation) };
-    let digits = rest.len() - rest.trim_start_matches(|one: char| one.is_ascii_digit()).len();
-    let place: usize = rest[..digits].parse().map_err(|_| "no place after @".to_string())?;
-    let no_line = format!("no line of neon starts at {place}");
-    match &rest[digits..] {
-        "-" => removed(place).ok_or(no_line),
-        ":" => replaced(place, b"").ok_or(no_line),
-        other if other.starts_with(": ") => replaced(place, &unescaped(&other[2..])?).ok_or(no_line),
-        other if other.starts_with("+ ") && place == NEON.len() => Ok(followed(&unescaped(&other[2..])?)),
-        _ => Err("neither @PLACE: nor @PLACE- nor @88+".to_string()),
-    }
-}
-
-/// What stands between a cell's backticks.
-fn quoted(cell: &str) -> Result<&str, String> {
-    let inside = cell.strip_prefix('`').and_then(|rest| rest.strip_suffix('`'));
-    inside.filter(|text| !text.contains('`')).ok_or(format!("not one text in backticks: {cell}"))
-}
 
 fn cells(line: &str) -> Option<Vec<&str>> {
     let inside = line.trim().strip_prefix('|')?.strip_suffix('|')?;
@@ -151,22 +89,35 @@ fn placed(block: &[u8], atom: usize) -> Result<String, String> {
     }
 }
 
-/// The last two lines that are written of an accepted block's table with another number 13, or the
-/// refusal number.
-fn rewritten(block: &[u8], number: i32) -> Result<String, String> {
+/// What is shown of the form of an accepted block's table, or the refusal number of its writing; the
+/// table may be changed before.
+fn rewritten(
+    block: &[u8],
+    change: impl Fn(&mut [i32]),
+    shown: impl Fn(&str) -> String,
+) -> Result<String, String> {
     let (mut table, mut buffer) = (vec![0; TABLE], vec![0; 32_768]);
     let answer = read_table(block, &mut table);
     if answer.number != 0 {
         return Err(format!("refused {}@{}", answer.number, answer.place));
     }
-    table[13] = number;
+    change(&mut table);
     let written = write(&table, block, &mut buffer);
     if written.number != 0 {
         return Ok(written.number.to_string());
     }
-    let form = String::from_utf8_lossy(&buffer[..written.count]).into_owned();
+    Ok(shown(&String::from_utf8_lossy(&buffer[..written.count])))
+}
+
+/// The last two lines of a form.
+fn last_two(form: &str) -> String {
     let lines: Vec<&str> = form.lines().collect();
-    Ok(lines[lines.len() - 2..].join("; "))
+    lines[lines.len() - 2..].join("; ")
+}
+
+/// The formula of a form.
+fn formula(form: &str) -> String {
+    form.lines().find_map(|line| line.strip_prefix("##MOLFORM= ")).unwrap_or_default().to_string()
 }
 
 /// A cell's block and the number behind it.
@@ -199,8 +150,9 @@ fn answered(input: &str, run: Run) -> Result<String, String> {
         }
         Run::Written => {
             let (block, number) = numbered(input)?;
-            rewritten(&meant(quoted(block)?)?, number)?
+            rewritten(&meant(quoted(block)?)?, |table| table[13] = number, last_two)?
         }
+        Run::Formula => rewritten(&meant(quoted(input)?)?, |_| {}, formula)?,
         Run::Name => String::from_utf8_lossy(name(&meant(quoted(input)?)?, b"?")).replace('\n', "\\n"),
         Run::Door => check(&meant(quoted(input)?)?).to_string(),
         Run::Walk => walk_lines(&meant(quoted(input)?)?).lines().collect::<Vec<&str>>().join("; "),
@@ -211,7 +163,11 @@ fn answered(input: &str, run: Run) -> Result<String, String> {
 fn run_row(cells: &[&str], run: Run) -> Result<(), String> {
     let [input, expected, other] = cells else { return Err(format!("{} cells", cells.len())) };
     let answered = answered(input, run)?;
-    let expected = quoted(expected)?;
+    let expected = match run {
+        // a fragment may be repeated as a row is
+        Run::Formula => String::from_utf8_lossy(&unescaped(quoted(expected)?)?).into_owned(),
+        _ => quoted(expected)?.to_string(),
+    };
     if answered != expected {
         return Err(format!("answered {answered}, not {expected}"));
     }
@@ -326,6 +282,17 @@ fn a_wrong_row_of_a_form_a_name_a_door_or_a_file_is_a_fault() {
     assert_eq!(run(form, "| `@76: 1 Ne`, 0 | `##STEREOMOLECULE= YES; ##END=` | `1 Ne; ##END=` |"), 1);
     assert_eq!(run(form, "| `@76: 1 Ne`, -2147483648 | `21` | written |"), 0);
     assert_eq!(run(form, "| `@76: 2 Ne`, 1 | `21` | written |"), 1);
+    let formula = "| block | written formula | other reading |";
+    let salt = "##TITLE=\\n##JCAMPCS=3.7\\n##ORIGIN=\\n##OWNER=\\n##MOLFORM=NaCl\\n##ATOMLIST=\\n1 Na\\n2 Cl\\n##END=";
+    assert_eq!(run(formula, &format!("| `{salt}` | `Na * Cl` | `Cl Na` |")), 0);
+    assert_eq!(run(formula, &format!("| `{salt}` | `Cl Na` | `Na * Cl` |")), 1);
+    assert_eq!(run(formula, &format!("| `{salt}` | `Na * Cl` | `Na * Cl` |")), 1);
+    let neons = salt.replace("NaCl", "Ne3").replace("1 Na\\n2 Cl\\n", "\\{1-3:\\i Ne\\n}");
+    assert_eq!(run(formula, &format!("| `{neons}` | `Ne\\{{2-3: * Ne}}` | `Ne3` |")), 0);
+    let titled = |length: usize| salt.replace("TITLE=", &format!("TITLE=\\{{1-{length}:a}}"));
+    assert_eq!(run(formula, &format!("| `{}` | `Na * Cl` | `23` |", titled(32_675))), 0);
+    assert_eq!(run(formula, &format!("| `{}` | `23` | `Cl Na` |", titled(32_676))), 0);
+    assert_eq!(run(formula, "| `@76: 2 Ne` | `23` | refused |"), 1);
     let shown = "| block | name to show, `?` the stand-in | other reading |";
     assert_eq!(run(shown, "| `##TITLE= a` | `a` | `?` |"), 0);
     assert_eq!(run(shown, "| `##TITLE=` | `a` | `?` |"), 1);

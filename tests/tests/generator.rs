@@ -183,6 +183,10 @@ fn tables_keep_what_is_not_their_own() {
     }
 }
 
+fn has_several_groups(table: &[i32], texts: &[u8]) -> bool {
+    generate::fragments::told_by_fragments(table, texts).contains(&"several groups")
+}
+
 #[test]
 fn the_benchmarks_blocks_are_what_they_are_called() {
     let mut random = Random::new(5);
@@ -191,7 +195,15 @@ fn the_benchmarks_blocks_are_what_they_are_called() {
         let mut table = vec![0; 3856];
         assert_eq!(read_table(&block, &mut table).number, 0, "refused: {}", block.escape_ascii());
         assert!((6..=24).contains(&table[0]), "{} atoms", table[0]);
+        assert!(!has_several_groups(&table, &block), "several groups: {}", block.escape_ascii());
     }
+    let several = (0..2_000).filter(|_| {
+        let block = generate::typical::typical_fragment_block(&mut random);
+        let mut table = vec![0; 3856];
+        assert_eq!(read_table(&block, &mut table).number, 0, "refused: {}", block.escape_ascii());
+        has_several_groups(&table, &block)
+    });
+    assert!(several.count() > 1_500);
     for _ in 0..500 {
         let block = generate::typical::typical_coordinate_block(&mut random);
         let (mut table, mut positions) = (vec![0; 3856], vec![0.0; 1024]);

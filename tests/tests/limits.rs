@@ -1,7 +1,8 @@
-//! The named cases: each name once, every refusal of the reader among them, limits as named.
+//! The named cases: each name once, every refusal of the reader among them, limits as named; and the named
+//! tables of several groups.
 
-use galebonnet_tests::generate::limit_blocks;
-use galebonnet_tests::independent::check;
+use galebonnet_tests::generate::{fragment_limits, limit_blocks};
+use galebonnet_tests::independent::{check, write};
 use std::collections::{BTreeMap, BTreeSet};
 
 /// Cases at a limit and one over it, each with its refusal number.
@@ -122,5 +123,49 @@ fn each_limit_passes_and_one_more_is_refused() {
     let numbers = numbers();
     for (name, number) in EXPECTED {
         assert_eq!(numbers.get(name), Some(&number), "{name}");
+    }
+}
+
+/// Named tables, each with its refusal number and how many fragments its form has.
+const TABLES: [(&str, u32, usize); 15] = [
+    ("256 atoms alone", 0, 256),
+    ("256 atoms in a chain", 0, 1),
+    ("256 atoms in a chain with the first at its end", 0, 1),
+    ("256 atoms in a chain from both ends", 0, 1),
+    ("256 atoms at the last", 0, 1),
+    ("256 atoms in pairs within pairs", 0, 128),
+    ("256 atoms in pairs joined one by one", 0, 1),
+    ("256 atoms in pairs far apart", 0, 128),
+    ("256 atoms taking turns with 512 bonds", 0, 2),
+    ("256 atoms taking turns with 511 bonds and one between", 0, 1),
+    ("256 atoms taking turns with 511 bonds and `A` between", 0, 2),
+    ("256 atoms in a chain of kind 4", 0, 1),
+    ("256 atoms in a chain of kind 5", 0, 256),
+    ("two helium atoms, a form of 32768 bytes in 32768", 0, 2),
+    ("256 atoms alone, a form of 32768 bytes in 32768", 0, 256),
+];
+
+#[test]
+fn the_named_tables_have_the_fragments_that_they_are_called_by() {
+    let mut answers: BTreeMap<String, (u32, usize)> = BTreeMap::new();
+    let cases = fragment_limits();
+    let count = cases.len();
+    for (name, case) in cases {
+        let mut buffer = vec![0; case.room];
+        let written = write(&case.table, &case.texts, &mut buffer);
+        let stars = buffer[..written.count].iter().filter(|&&byte| byte == b'*').count();
+        answers.insert(name, (written.number, stars + 1));
+    }
+    assert_eq!(answers.len(), count, "a name stands twice");
+    for (name, number, fragments) in TABLES {
+        assert_eq!(answers.get(name), Some(&(number, fragments)), "{name}");
+    }
+    for (name, (number, _)) in answers {
+        let expected = match name.rsplit_once("of ").map(|(_, lengths)| lengths) {
+            Some("32767 bytes in 32766" | "32768 bytes in 32767") => 22,
+            Some("32769 bytes in 32768" | "32769 bytes in 32769") => 23,
+            _ => 0,
+        };
+        assert_eq!(number, expected, "{name}");
     }
 }

@@ -182,15 +182,16 @@ fn section_j_the_form() {
         form.lines().find_map(|line| line.strip_prefix("##MOLFORM= ")).expect("a formula").to_string()
     };
     assert_eq!(formula("Br H", "1 Br 1"), "H Br");
-    assert_eq!(formula("NaCl", "1 Na\n2 Cl"), "Cl Na");
-    let isotopes = ["Ag", "^4H", "T", "D", "^1H", "H", "^13C", "^12C", "C", "C"];
-    let rows: Vec<String> =
-        isotopes.iter().zip(1..).map(|(symbol, number)| format!("{number} {symbol}")).collect();
-    assert_eq!(formula(&isotopes.join(" "), &rows.join("\n")), "C2 ^12C ^13C H ^1H D T ^4H Ag");
-    let order = "Ne Nb Na N Be Ba B Ir In I";
-    let rows: Vec<String> =
-        order.split(' ').zip(1..).map(|(symbol, number)| format!("{number} {symbol}")).collect();
-    assert_eq!(formula(order, &rows.join("\n")), "B Ba Be I In Ir N Na Nb Ne");
+    assert_eq!(formula("NaCl", "1 Na\n2 Cl"), "Na * Cl", "L1");
+    assert_eq!(formula("NaCl", "1 Na\n2 Cl\n##BONDLIST=\n1 2 S"), "Cl Na");
+    // a chain of atoms, so that they are one fragment
+    let chained = |symbols: &str| {
+        let rows = symbols.split(' ').zip(1..).map(|(symbol, number)| format!("{number} {symbol}\n"));
+        let bonds = (2..=symbols.split(' ').count()).map(|atom| format!("\n{} {atom} S", atom - 1));
+        formula(symbols, &(rows.collect::<String>() + "##BONDLIST=" + &bonds.collect::<String>()))
+    };
+    assert_eq!(chained("Ag ^4H T D ^1H H ^13C ^12C C C"), "C2 ^12C ^13C H ^1H D T ^4H Ag");
+    assert_eq!(chained("Ne Nb Na N Be Ba B Ir In I"), "B Ba Be I In Ir N Na Nb Ne");
     assert!(form(&NEON.replace("Ne", "^2H")).ends_with("##MOLFORM= D\n##ATOMLIST=\n1 D\n##END=\n"), "J4");
     let empty = form(&NEON.replace("= a", "=").replace("= b", "=").replace("= c", "="));
     assert!(empty.starts_with("##TITLE=\n##JCAMP-CS= 3.7\n##ORIGIN=\n##OWNER=\n##MOLFORM= Ne\n"), "J2");

@@ -1,6 +1,7 @@
 //! What is written is read back: the same table but for the six text places, the same texts, and
 //! written again the same bytes.
 
+use galebonnet_tests::generate::fragments::sound_fragment_table;
 use galebonnet_tests::generate::tables::sound_table;
 use galebonnet_tests::generate::{table_case, Random};
 use galebonnet_tests::independent::{read_table, write, Answer};
@@ -39,6 +40,15 @@ fn twenty_thousand_sound_tables_come_back() {
     let mut random = Random::new(20);
     for _ in 0..20_000 {
         let (table, bytes) = sound_table(&mut random);
+        comes_back(&table, &bytes);
+    }
+}
+
+#[test]
+fn ten_thousand_tables_of_several_groups_come_back() {
+    let mut random = Random::new(22);
+    for _ in 0..10_000 {
+        let (table, bytes) = sound_fragment_table(&mut random);
         comes_back(&table, &bytes);
     }
 }

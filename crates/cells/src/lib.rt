@@ -1,10 +1,11 @@
 // What stands in one number of a lent table: document 01, "The structure table" ("3,856 signed 32-bit numbers"). Every function is total: beyond the table's end
-// stands 0. No list, no rule of a list; those who judge or write a table read it through these three.
+// stands 0. No list, no rule of a list; those who judge or write a table read it through these four.
 ghost use mathlib.Core.Path.{_≡_};
+ghost use Prim.Native.Nat.{_≤_};
 ghost use lib.ListN.{getD};
 ghost use lib.IntN.{pos};
 ghost use Rattle.format.specs.Structure.{ranging};
-ghost use Rattle.format.specs.Table.{cell as cellOf};
+ghost use Rattle.format.specs.Table.{cell as cellOf, countAt};
 ghost use Rattle.cells.specs.Signs.{negative};
 
 // Whether the number there is below zero.
@@ -45,4 +46,15 @@ pub fn ranges(table: &[i32], at: usize, low: u32, high: u32) -> bool
         return false;
     }
     number <= high
+}
+
+// A count of the table, cut to what its list holds.
+pub fn count_at(table: &[i32], at: usize, most: usize) -> usize
+    ensures { λ r. ⌜ (r ≡ countAt (now (table .entry)) at most) × (r ≤ most) ⌝ }
+{
+    let count = cell(table, at) as usize;
+    if count < most {
+        return count;
+    }
+    most
 }

@@ -11,16 +11,16 @@ use lib.IntN.{ℤ, pos, natAbs, _*ℤ_}
 use lib.Dec.{ltb}
 use lib.Ieee.{Float}
 use Rattle.lists.specs.Lists.{all, any}
-use Rattle.format.specs.Bytes.{Bytes, bytes, isIn, cut, whole}
+use Rattle.format.specs.Bytes.{Bytes, bytes, isIn, cut, strip, whole}
 use Rattle.format.specs.Labels.{ListOf, endLine}
 use Rattle.format.specs.Rows.{Row}
 use Rattle.format.specs.Formula.{Counted, formulaShape}
 use Rattle.format.specs.Grammar.{Says}
 use Rattle.format.specs.Coordinates.{Factor, Geometry, coordinate, Near, minusOf, positionTable}
-use Rattle.format.specs.Structure.{Isotope, Entry, total, agree, Atom, Structure, rowsOf, wellFormed}
+use Rattle.format.specs.Structure.{Isotope, Entry, entriesOf, total, agree, Atom, Structure, rowsOf, wellFormed}
 use Rattle.format.specs.Reading.{strict, Span, Read, readBlock}
 use Rattle.format.specs.Table.{zeros, width, rowPlace, atomPlace, textPlace, rowCells, spanCells, encode, textFine, textAt, sound, Lent, lent, noughts, short, overlaid, ample, readAnswer, readResult}
-use Rattle.format.specs.Writing.{canonical, formOf, unwritten, writtenAs, writeResult}
+use Rattle.format.specs.Writing.{valued, formulaOf, printFormula, fragments, canonical, formOf, unwritten, writtenAs, writeResult}
 use Rattle.format.specs.Walking.{block, piece, pieces, Answer, toldOf, answers}
 use Rattle.format.proofs.TotalLaws as totals
 use Rattle.format.proofs.GrammarLaws as grammar
@@ -30,12 +30,13 @@ use Rattle.demands.specs.Starred.{starred}
 use Rattle.demands.specs.Neighbours.{neighbours}
 use Rattle.demands.specs.Placings.{placings}
 use Rattle.demands.specs.Handings.{handings}
-use Rattle.demands.specs.Examples.{formicInput, formicWritten, formicTable, placedNeon, placedPositions, cycloocteneInput, cycloocteneWritten, cycloocteneTable, neon, wrongNeon, exampleFile, printedAll, exampleLines}
+use Rattle.demands.specs.Examples.{formicInput, formicWritten, formicTable, placedNeon, placedPositions, cycloocteneInput, cycloocteneWritten, cycloocteneTable, hydrateInput, hydrateWritten, hydrateTable, neon, wrongNeon, exampleFile, printedAll, exampleLines}
 use Rattle.demands.specs.Stretches.{closing, opening, moved, _then_, textsTold, textsFrom, Chain, straysAdjoin, titleInStray, steps}
 use Rattle.demands.specs.WayBack.{ReadBack, TableBack, WrittenAgain, OneBlock}
-use Rattle.demands.specs.Accepted.{xyzRows, factorIn, Obeys, _exactlyWhen_}
+use Rattle.demands.specs.Accepted.{entriesAs, xyzRows, factorIn, Obeys, _exactlyWhen_}
 use Rattle.demands.specs.Positions.{AllNear, PositionTold}
 use Rattle.demands.specs.Handed.{numberAt, HandedTold, HandedAlone}
+use Rattle.demands.specs.Groups.{Joined, lowestIn, AtomOf, IsLowest, lowestAtoms, groupIn, entriesIn}
 use Rattle.demands.specs.ReadAs.{structureIn, spansIn, geometryIn}
 use Rattle.demands.specs.ReadWritten.{formIn}
 use Rattle.demands.specs.Places.{numbersAt, atomNumbers}
@@ -56,6 +57,7 @@ use Rattle.demands.proofs.Strays as strays
 use Rattle.demands.proofs.Positions as positions
 use Rattle.demands.proofs.PositionsGiven as given
 use Rattle.demands.proofs.Handed as handed
+use Rattle.demands.proofs.Fragments as groups
 use Rattle.demands.proofs.Today as today
 
 -- DEMAND 1
@@ -220,6 +222,30 @@ cyclooctene-read = worked.cyclooctene-read
 
 pub cyclooctene-written : writeResult 103 cycloocteneTable (bytes cycloocteneInput) (replicate 294 7) ≡ record { number = 0; count = 292; buffer = bytes cycloocteneWritten ++ (7 ∷ 7 ∷ []) }
 cyclooctene-written = worked.cyclooctene-written
+
+-- DOCUMENT 02, L1
+-- "each group of atoms joined by S, D, T or Q bonds, `A` not counting": two atoms have the same lowest one exactly where a path of such bonds joins them
+pub same-group-iff-path : (k : ℕ) (s : Structure) → wellFormed k s ≡ true → (a b : ℕ) → AtomOf s a → AtomOf s b → (lowestIn s a ≡ lowestIn s b) exactlyWhen Joined (s .bonds) a b
+same-group-iff-path = groups.same-group-iff-path
+
+-- it is of their group, and none of the group is lower
+pub lowest-of-group : (k : ℕ) (s : Structure) → wellFormed k s ≡ true → (a : ℕ) → AtomOf s a → IsLowest s a
+lowest-of-group = groups.lowest-of-group
+
+-- "one fragment for each group .., in order of their lowest atom", and "Each keeps the old order inside": of the atoms of the group alone, with their hydrogens
+pub fragment-for-each-group : (k : ℕ) (s : Structure) → wellFormed k s ≡ true → map entriesIn (fragments s) ≡ map (λ i. formulaOf (entriesOf (groupIn s i))) (lowestAtoms s)
+fragment-for-each-group = groups.fragment-for-each-group
+
+-- the formula as it is written has, over all its fragments, the atoms' totals
+pub fragments-total : (k : ℕ) (s : Structure) → k ≤ 103 → wellFormed k s ≡ true → (i : Isotope) → total i (entriesAs k (formulaShape (strip (valued (printFormula (fragments s)))))) ≡ total i (entriesOf (s .atoms))
+fragments-total = groups.fragments-total
+
+-- a hydrate: read to its table, number for number, and written with four fragments, byte for byte
+pub hydrate-read : readResult 103 (bytes hydrateInput) ample ≡ readAnswer 0 0 (lent hydrateTable (noughts 1024))
+hydrate-read = worked.hydrate-read
+
+pub hydrate-written : writeResult 103 hydrateTable (bytes hydrateInput) (replicate 236 7) ≡ record { number = 0; count = 234; buffer = bytes hydrateWritten ++ (7 ∷ 7 ∷ []) }
+hydrate-written = worked.hydrate-written
 
 -- DEMAND 3
 -- "Take a file of three stretches, within the file limit: the first empty or ending with a block closed by its END line and line feed; the second anything,

@@ -8,6 +8,7 @@ pub mod WayBackLabels
 pub mod WayBackTexts
 pub mod WayBackRows
 pub mod WayBackAtoms
+pub mod Groups
 pub mod WayBackFormula
 pub mod WayBackRecords
 pub mod WayBackLists
@@ -43,5 +44,6 @@ pub mod TextsTold
 pub mod Positions
 pub mod PositionsGiven
 pub mod Handed
+pub mod Fragments
 pub mod Today
 pub mod Demands

@@ -7,6 +7,7 @@ use Rattle.demands.proofs.AcceptedSound as kept
 use Rattle.demands.proofs.ReadAs as read
 use Rattle.demands.proofs.PositionsGiven as given
 use Rattle.demands.proofs.Handed as handed
+use Rattle.demands.proofs.Fragments as groups
 use Rattle.demands.proofs.Refused as refused
 use Rattle.demands.proofs.Stretches as stretches
 use Rattle.demands.proofs.TextsTold as told
@@ -33,6 +34,10 @@ demand-2 = record {
   positions-given = given.positions-given 103;
   handed-given = handed.handed-given 103;
   handed-alone = handed.handed-alone 103;
+  same-group-iff-path = groups.same-group-iff-path 103;
+  lowest-of-group = groups.lowest-of-group 103;
+  fragment-for-each-group = groups.fragment-for-each-group 103;
+  fragments-total = λ s. groups.fragments-total 103 s most;
   read-written = λ b t. kept.read-written 103 b t one;
   read-then-written = λ b t. kept.read-then-written 103 b t one;
   read-written-read = λ b t wide given buffer into. kept.read-written-read 103 b t one wide given buffer into most;

@@ -1,7 +1,7 @@
 -- The way back of demand 2, document 01: the written form of a well-formed structure and of three fine texts, if it fits, is read as that structure with those
 -- texts. Put together from the records one after another. Assumes nothing.
-use Prim.Native.Nat.{ℕ, zero, suc, _+_, _≤_}
-use mathlib.Core.Path.{_≡_, refl, sym, ap, _∙_}
+use Prim.Native.Nat.{ℕ, zero, suc, _+_, _≤_, _<_}
+use mathlib.Core.Path.{_≡_, refl, sym, ap, _∙_, subst}
 use mathlib.Core.Bool.{Bool, true, false, not, _||_}
 use mathlib.Core.List.{List, [], _∷_, _++_, map, append-assoc, reverse, append-nil}
 use native.Mathlib.Omega.{arith}
@@ -11,30 +11,33 @@ use lib.Dec.{leb}
 use borrow.Author.Tests.{leb-true, le-ltb, not-true}
 use Rattle.lists.specs.Lists.{isNil, all, any, concat, flat}
 use Rattle.lists.proofs.Bools.{and-parts}
-use Rattle.lists.proofs.ListLaws.{all-parts, same-none}
+use Rattle.lists.proofs.ListLaws.{all-parts, same-none, any-hit}
 use Rattle.lists.proofs.SortLaws.{perm-length}
 use Rattle.lists.proofs.FoldLaws.{reverse-perm}
-use Rattle.format.specs.Bytes.{Bytes, bytes, within, cut}
+use Rattle.format.specs.Bytes.{Bytes, bytes, within, cut, strip}
 use Rattle.format.specs.Labels.{ListOf, Bonds, Charges, Radicals, Centres, Pairs, Holds, Text, BlockId, Formula, Atoms, Label, misplaced}
 use Rattle.format.specs.Coordinates.{noGeometry}
-use Rattle.format.specs.Structure.{Atom, entriesOf, Structure, rowsOf, lists, atomOk, rowsOk, wellFormed, handedTwice}
+use Rattle.format.specs.Structure.{Atom, entriesOf, Structure, rowsOf, lists, atomOk, rowsOk, wellFormed, handedTwice, Isotope, groups, isotopeOf, total, Entry, sameIsotope, entry}
 use Rattle.format.specs.Reading.{Rules, strict, State, Prose, prose, over, lacks, readLines, start, Accepted, finished, Span, spanOf, Read, readingOf, readBlock}
 use Rattle.format.specs.Table.{textFine, textAt, textOk}
-use Rattle.format.specs.Writing.{formulaBefore, formulaOf, fragment, printFormula, valued, printRecord, printId, printAtoms, printRows, records, canonical, printYes}
+use Rattle.format.specs.Writing.{formulaBefore, printFormula, valued, printRecord, printId, printAtoms, printRows, records, canonical, printYes, fragments}
 use Rattle.format.proofs.ByteLaws.{within-true}
 use Rattle.format.proofs.RowLaws.{FineAtom, atom-fine}
-use Rattle.format.proofs.TotalLaws.{gathered-agree}
+use Rattle.format.proofs.TotalLaws.{every-agree, gathered-total, entries-bare, isotope-refl, entries-implied, total-some, entries-counted}
 use Rattle.format.proofs.Computing.{computing}
 use Rattle.format.specs.Rows.{Row}
+use Rattle.format.specs.Formula.{formulaShape}
 use Rattle.demands.specs.WayBack.{ReadBack}
+use Rattle.demands.specs.Accepted.{entriesAs}
 use Rattle.demands.proofs.WayBackLines.{stateOf, Through, through-nil, through-to}
 use Rattle.demands.proofs.WayBackLabels.{titleLabel, versionLabel, originLabel, ownerLabel, idLabel, formulaLabel, atomsLabel, free, yesLabel, endLabel}
 use Rattle.demands.proofs.WayBackTexts.{spanned, span-is, Stands, span-at, span-ok}
 use Rattle.demands.proofs.WayBackRows.{sorted-back}
 use Rattle.demands.proofs.WayBackAtoms.{atoms-label, atoms-through}
-use Rattle.demands.proofs.WayBackFormula.{gathered, formula-through}
+use Rattle.demands.proofs.WayBackFormula.{gathered, formula-through, formula-told, some-fragment}
 use Rattle.demands.proofs.WayBackRecords.{blankWith, threeTexts, begin, start-is, title-through, version-through, origin-through, owner-through, id-through}
 use Rattle.demands.proofs.WayBackLists.{FineRows, rows-fine, Stage, AcceptedAs, end-stage, bareOf, turned, listLabels, lists-stage, turnedTo, yes-stage}
+use Rattle.demands.proofs.Groups.{FewOf, Linked, groups-few, linked, totals-together}
 
 -- WHAT A WELL-FORMED STRUCTURE KEEPS
 pub record Fine (k : ℕ) (s : Structure) : Type 0 where
@@ -158,6 +161,50 @@ first-element : (k : ℕ) (atoms : List Atom) → 1 ≤ length atoms → all (at
 first-element k [] n h = absurd (omega arith)
 first-element k (a ∷ rest) n h = let F : FineAtom k a = atom-fine k a (all-parts (atomOk k) a rest h .0) in omega (arith, F .low, F .high)
 
+-- the first atom's kind has a total
+abbrev kindOf : List Atom → Isotope
+kindOf [] = isotopeOf 0 0
+kindOf (a ∷ rest) = a .kind
+
+some-total : (atoms : List Atom) → 1 ≤ length atoms → 0 < total (kindOf atoms) (entriesOf atoms)
+some-total [] h = absurd (omega (arith, h))
+some-total (a ∷ rest) h = total-some (a .kind) (entriesOf (a ∷ rest)) (entries-counted (a ∷ rest)) (by (a .hydrogens) refl)
+  where
+    by : (n : ℕ) → a .hydrogens ≡ n → any (λ (e : Entry). sameIsotope (a .kind) (e .kind)) (entriesOf (a ∷ rest)) ≡ true
+    by zero e = ap (any (λ (x : Entry). sameIsotope (a .kind) (x .kind))) (entries-bare a rest e) ∙ any-hit (λ (x : Entry). sameIsotope (a .kind) (x .kind)) (entry (a .kind) 1) (entriesOf rest) (isotope-refl (a .kind))
+    by (suc m) e =
+        ap (any (λ (x : Entry). sameIsotope (a .kind) (x .kind))) (entries-implied a rest m e)
+        ∙ any-hit (λ (x : Entry). sameIsotope (a .kind) (x .kind)) (entry (a .kind) 1) (entry (isotopeOf 1 0) (suc m) ∷ entriesOf rest) (isotope-refl (a .kind))
+
+few-less : (p : Atom → Bool) (n m : ℕ) → n ≤ m → (gs : List (List Atom)) → FewOf p n gs → FewOf p m gs
+few-less p n m h [] q = tt
+few-less p n m h (g ∷ gs) q = ((q .0 .0, omega (arith, q .0 .1, h)), few-less p n m h gs (q .1))
+
+-- THE GROUPS, and their totals over all fragments
+module _ (k : ℕ) (s : Structure) (ok : Fine k s) where
+  s-linked : Linked (length (s .atoms)) (s .bonds)
+  unfolding rowsOf
+  s-linked = linked (length (s .atoms)) (s .bonds) (ok .rows Bonds .fine)
+
+  groups-fine : FewOf (atomOk k) 256 (groups s)
+  groups-fine = few-less (atomOk k) (length (s .atoms)) 256 (ok .high) (groups s) (groups-few (atomOk k) s (ok .atoms))
+
+  pub all-totals : (i : Isotope) → total i (flat gathered (groups s)) ≡ total i (entriesOf (s .atoms))
+  all-totals = totals-together s s-linked gathered (λ i g. gathered-total formulaBefore (entriesOf g) i)
+
+  abbrev first-kind : Isotope
+  first-kind = kindOf (s .atoms)
+
+  first-there : 0 < total first-kind (flat gathered (groups s))
+  first-there = subst (λ (n : ℕ). 0 < n) (sym (all-totals first-kind)) (some-total (s .atoms) (ok .low))
+
+  elements : 1 ≤ k
+  elements = first-element k (s .atoms) (ok .low) (ok .atoms)
+
+  pub written-formula : k ≤ 103 → entriesAs k (formulaShape (strip (valued (printFormula (fragments s))))) ≡ flat gathered (groups s)
+  unfolding fragments
+  written-formula most = formula-told k most elements (groups s) groups-fine (some-fragment k most elements (groups s) groups-fine first-kind first-there)
+
 -- THE WHOLE FORM
 module _ (k : ℕ) (most : k ≤ 103) (s : Structure) (ok : Fine k s) (t0 t1 t2 : Bytes) (f0 : textFine t0 ≡ true) (f1 : textFine t1 ≡ true) (f2 : textFine t2 ≡ true) where
   abbrev u : Rules
@@ -176,7 +223,7 @@ module _ (k : ℕ) (most : k ≤ 103) (s : Structure) (ok : Fine k s) (t0 t1 t2 
   owner = bytes "##OWNER=" ++ valued t2
 
   abbrev formula : Bytes
-  formula = bytes "##MOLFORM=" ++ valued (printFormula (fragment (formulaOf (entriesOf (s .atoms)))))
+  formula = bytes "##MOLFORM=" ++ valued (printFormula (fragments s))
 
   abbrev label-line : Bytes
   label-line = bytes "##ATOMLIST=" ++ valued []
@@ -232,20 +279,18 @@ module _ (k : ℕ) (most : k ≤ 103) (s : Structure) (ok : Fine k s) (t0 t1 t2 
   abbrev seen-all : List Label
   seen-all = atomsLabel ∷ formulaLabel ∷ idSeen (s .id)
 
-  atoms-read : readLines u begin (cut form) ≡ readLines u (stateOf (atoms-at + length (printAtoms 1 (s .atoms))) seen-all Atoms texts (gathered (s .atoms)) (bareOf (s .atoms) (s .id))) (cut lists-on)
+  atoms-read : readLines u begin (cut form) ≡ readLines u (stateOf (atoms-at + length (printAtoms 1 (s .atoms))) seen-all Atoms texts (flat gathered (groups s)) (bareOf (s .atoms) (s .id))) (cut lists-on)
+  unfolding fragments
   atoms-read =
       let n : ℕ = s .id in
       texts-read
       ∙ id-passed u behind-texts texts n (ok .id) (formula ++ (label-line ++ (printAtoms 1 (s .atoms) ++ lists-on)))
-      ∙ formula-through u formula-at (idSeen n) (idRuns n) texts [] (blankWith n) (s .atoms) most elements (ok .low) (ok .high) (ok .atoms) (id-seen n) (formula-free n) (id-runs n) (label-line ++ (printAtoms 1 (s .atoms) ++ lists-on))
-      ∙ atoms-label u (formula-at + length formula) (formulaLabel ∷ idSeen n) Formula texts (gathered (s .atoms)) (blankWith n) refl (atoms-free n) refl (printAtoms 1 (s .atoms) ++ lists-on)
-      ∙ atoms-through u most seen-all refl texts (gathered (s .atoms)) (blankWith n) (s .atoms) [] atoms-at 1 refl (omega (arith, ok .high)) (ok .atoms) lists-on
-    where
-      elements : 1 ≤ k
-      elements = first-element k (s .atoms) (ok .low) (ok .atoms)
+      ∙ formula-through u formula-at (idSeen n) (idRuns n) texts [] (blankWith n) (groups s) most (elements k s ok) (groups-fine k s ok) (first-kind k s ok) (first-there k s ok) (id-seen n) (formula-free n) (id-runs n) (label-line ++ (printAtoms 1 (s .atoms) ++ lists-on))
+      ∙ atoms-label u (formula-at + length formula) (formulaLabel ∷ idSeen n) Formula texts (flat gathered (groups s)) (blankWith n) refl (atoms-free n) refl (printAtoms 1 (s .atoms) ++ lists-on)
+      ∙ atoms-through u most seen-all refl texts (flat gathered (groups s)) (blankWith n) (s .atoms) [] atoms-at 1 refl (omega (arith, ok .high)) (ok .atoms) lists-on
 
-  handed-on : (y : Bool) → Stage u begin form texts (gathered (s .atoms)) (turnedTo false s) (yesLabel ∷ endLabel ∷ []) (printYes y ++ ended) → Stage u begin form texts (gathered (s .atoms)) (turnedTo y s) (endLabel ∷ []) ended
-  handed-on true g = yes-stage u begin form texts (gathered (s .atoms)) (turnedTo false s) ended g refl
+  handed-on : (y : Bool) → Stage u begin form texts (flat gathered (groups s)) (turnedTo false s) (yesLabel ∷ endLabel ∷ []) (printYes y ++ ended) → Stage u begin form texts (flat gathered (groups s)) (turnedTo y s) (endLabel ∷ []) ended
+  handed-on true g = yes-stage u begin form texts (flat gathered (groups s)) (turnedTo false s) ended g refl
   handed-on false g = record { at = g .at; seen = g .seen; running = g .running; begun = g .begun; runs = g .runs; clear = all-parts (free (g .seen)) yesLabel (endLabel ∷ []) (g .clear) .1; had = g .had; spare = g .spare; given = g .given; reads = g .reads }
 
   none-turned : (rs : List Row) → isNil (reverse rs) ≡ isNil rs
@@ -255,9 +300,9 @@ module _ (k : ℕ) (most : k ≤ 103) (s : Structure) (ok : Fine k s) (t0 t1 t2 
   unfolding handedTwice
   once-turned = rw (none-turned (s .centres), none-turned (s .pairs)) (ok .once)
 
-  accepted : AcceptedAs u begin form texts (gathered (s .atoms)) (turned s)
+  accepted : AcceptedAs u begin form texts (flat gathered (groups s)) (turned s)
   accepted =
-      let g : Stage u begin form texts (gathered (s .atoms)) (bareOf (s .atoms) (s .id)) listLabels lists-on =
+      let g : Stage u begin form texts (flat gathered (groups s)) (bareOf (s .atoms) (s .id)) listLabels lists-on =
       record {
         at = atoms-at + length (printAtoms 1 (s .atoms));
         seen = seen-all;
@@ -270,7 +315,7 @@ module _ (k : ℕ) (most : k ≤ 103) (s : Structure) (ok : Fine k s) (t0 t1 t2 
         given = no-yes (s .id);
         reads = atoms-read;
       } in
-      end-stage u begin form texts (gathered (s .atoms)) (turned s) (handed-on (s .handed) (lists-stage u begin form texts (gathered (s .atoms)) s (omega (arith, ok .high)) (ok .rows) yes-on g)) once-turned (ok .low) (gathered-agree formulaBefore (entriesOf (s .atoms)))
+      end-stage u begin form texts (flat gathered (groups s)) (turned s) (handed-on (s .handed) (lists-stage u begin form texts (flat gathered (groups s)) s (omega (arith, ok .high)) (ok .rows) yes-on g)) once-turned (ok .low) (every-agree (flat gathered (groups s)) (entriesOf (s .atoms)) (all-totals k s ok))
 
   -- THE SPANS
   abbrev spans : List Span
@@ -324,7 +369,7 @@ module _ (k : ℕ) (most : k ≤ 103) (s : Structure) (ok : Fine k s) (t0 t1 t2 
   form-read : length form ≤ 32768 → readBlock u form ≡ Read s spans noGeometry
   unfolding readBlock
   form-read fits =
-      let x : AcceptedAs u begin form texts (gathered (s .atoms)) (turned s) = accepted in
+      let x : AcceptedAs u begin form texts (flat gathered (groups s)) (turned s) = accepted in
       let e : readLines u start (cut form) ≡ Accepted (x .last) = ap (λ (st : State). readLines u st (cut form)) start-is ∙ x .reads in
       rw (le-ltb 32768 (length form) fits, readBlock) (ap readingOf e ∙ ap (λ (b : Structure). Read (finished b) (map spanOf (x .last .texts)) (x .last .geometry)) (x .body-is) ∙ ap (λ (l : List Prose). Read (finished (turned s)) (map spanOf l) (x .last .geometry)) (x .texts-are) ∙ ap (Read (finished (turned s)) (map spanOf texts)) (x .geometry-is)
       ∙ ap (λ (b : Structure). Read b (map spanOf texts) noGeometry) structure-back ∙ ap (λ (l : List Span). Read s l noGeometry) spans-are)

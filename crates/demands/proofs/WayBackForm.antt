@@ -17,8 +17,8 @@ use Rattle.format.specs.Bytes.{Bytes, bytes, allowed, cut, lineLen, wholeFrom, 
 use Rattle.format.specs.Labels.{ListOf, Label, misplaced, Line, Plain, Unparted, Labelled, lineOf, hasCode, titleLine, endLine}
 use Rattle.format.specs.Rows.{Row}
 use Rattle.format.specs.Coordinates.{Geometry}
-use Rattle.format.specs.Structure.{Atom, Structure, rowsOf, lists, entriesOf}
-use Rattle.format.specs.Writing.{digits, line, atomWords, printAtoms, rowWords, formulaOf, fragment, printFormula, valued, printRecord, printId, listLabel, printRows, printYes, records, canonical}
+use Rattle.format.specs.Structure.{Atom, Structure, rowsOf, lists}
+use Rattle.format.specs.Writing.{digits, line, atomWords, printAtoms, rowWords, printFormula, valued, printRecord, printId, listLabel, printRows, printYes, records, canonical, fragments}
 use Rattle.format.specs.Reading.{Rules, State, Go, if_stop_else_, past, noted, lacks, lineTurn, lineStep, Outcome, Accepted, Refused, readLines, start, Span, Read, Unread, readingOf, readBlock}
 use Rattle.format.proofs.Computing.{computing}
 use Rattle.format.proofs.CutLaws.{cut-first, cut-append}
@@ -186,7 +186,7 @@ module _ (s : Structure) (texts : List Bytes) where
       ∷ printRecord "##ORIGIN=" (getD texts 1 [])
       ∷ printRecord "##OWNER=" (getD texts 2 [])
       ∷ printId (s .id)
-      ∷ printRecord "##MOLFORM=" (printFormula (fragment (formulaOf (entriesOf (s .atoms)))))
+      ∷ printRecord "##MOLFORM=" (printFormula (fragments s))
       ∷ printRecord "##ATOMLIST=" []
       ∷ printAtoms 1 (s .atoms)
       ∷ flat (λ l. printRows l (rowsOf l s)) lists
@@ -202,7 +202,7 @@ module _ (s : Structure) (texts : List Bytes) where
         record-whole "##ORIGIN=" (getD texts 1 []),
         record-whole "##OWNER=" (getD texts 2 []),
         id-whole (s .id),
-        record-whole "##MOLFORM=" (printFormula (fragment (formulaOf (entriesOf (s .atoms))))),
+        record-whole "##MOLFORM=" (printFormula (fragments s)),
         record-whole "##ATOMLIST=" [],
         atoms-whole 1 (s .atoms),
         whole-flat (λ (l : ListOf). printRows l (rowsOf l s)) (λ l. rows-whole l (rowsOf l s)) lists,

@@ -1,33 +1,35 @@
 -- The way back, the formula: the formula of a well-formed structure's atoms can be printed, and its record is read as their totals by kind. Serves document 01,
 -- demand 2; a total is at most 4,096, so within "an optional count 1 to 9,999". Assumes nothing.
 use Prim.Native.Nat.{ℕ, zero, suc, _+_, _*_, _≤_, _<_}
-use mathlib.Core.Path.{_≡_, refl, sym, ap, _∙_}
+use mathlib.Core.Path.{_≡_, refl, sym, ap, _∙_, subst}
 use mathlib.Core.Bool.{Bool, true, false, not, _&&_}
 use mathlib.Core.Option.{some}
-use mathlib.Core.List.{List, [], _∷_, _++_, map}
+use mathlib.Core.List.{List, [], _∷_, _++_, map, map-append}
 use native.Mathlib.Omega.{arith}
 use lib.ListN.{length}
 use lib.Dec.{leb}
 use borrow.Author.Tests.{le-leb, leb-true, not-true}
-use Rattle.lists.specs.Lists.{isNil, all, any}
+use Rattle.lists.specs.Lists.{share, isNil, all, any, flat}
 use Rattle.lists.specs.Order.{sort}
-use Rattle.lists.proofs.Bools.{torn, and-parts, and-both}
-use Rattle.lists.proofs.ListLaws.{all-nil, all-parts, all-both, any-nil, any-hit, any-miss, any-later, any-all, all-imply}
-use Rattle.lists.proofs.PartLaws.{all-map, any-map}
-use Rattle.lists.proofs.SortLaws.{sort-all, sort-length}
+use Rattle.lists.proofs.Bools.{torn, and-parts, and-both, or-neither}
+use Rattle.lists.proofs.ListLaws.{all-nil, all-parts, all-both, any-nil, any-hit, any-miss, any-later, any-append, any-all, all-imply, all-append-both}
+use Rattle.lists.proofs.PartLaws.{all-map, any-map, flat-nil, flat-one, flat-cons, flat-append}
+use Rattle.lists.proofs.SortLaws.{sort-all}
 use Rattle.format.specs.Bytes.{Bytes, bytes, within, strip}
 use Rattle.format.specs.Labels.{Holds, Formula, Label, label, misplaced}
 use Rattle.format.specs.Formula.{Counted, counted, formulaShape}
 use Rattle.format.specs.Structure.{Isotope, isotopeOf, isotope, unknown, massOk, Atom, Entry, entry, entriesOf, sameIsotope, total, kinds, Structure, atomOk}
 use Rattle.format.specs.Reading.{Rules, State, Go, Prose, over, withFormula, formulaTurn, valueTurn}
-use Rattle.format.specs.Writing.{spelt, formulaBefore, formulaOf, fragment, printFormula, valued}
+use Rattle.format.specs.Writing.{spelt, formulaBefore, formulaOf, Fragment, fragment, printFormula, valued}
 use Rattle.format.proofs.ByteLaws.{within-is, within-true}
 use Rattle.format.proofs.FieldLaws.{inline}
 use Rattle.format.proofs.SymbolLaws.{isotope-back, known-back, spelt-mass, spelt-printable}
-use Rattle.format.proofs.FormulaBack.{PrintableEntry, AllPrintable, formula-inline, fragment-value}
+use Rattle.format.proofs.FormulaBack.{PrintableEntry, AllPrintable, AllPrint, entriesIn, formula-inline, formula-value}
 use Rattle.format.proofs.RowLaws.{FineAtom, atom-fine}
 use Rattle.format.proofs.TextLaws.{valued-allowed}
-use Rattle.format.proofs.TotalLaws.{isotope-is, isotope-refl, share, total-nil, total-cons, total-some, kinds-nil, kinds-again, kinds-new, kinds-any, entries-bare, entries-implied, entries-counted}
+use Rattle.format.proofs.TotalLaws.{isotope-is, isotope-refl, total-nil, total-cons, total-some, kinds-nil, kinds-again, kinds-new, kinds-any, entries-bare, entries-implied, entries-counted}
+use Rattle.demands.specs.Accepted.{entriesAs}
+use Rattle.demands.proofs.Groups.{FewOf}
 use Rattle.demands.proofs.WayBackLines.{stateOf, Through, through-line, record-full, inline-fine}
 use Rattle.demands.proofs.WayBackLabels.{formulaLabel, formula-written, label-value}
 
@@ -145,14 +147,6 @@ module _ (k : ℕ) (most : k ≤ 103) (es : List Entry) where
   printable-all [] h = tt
   printable-all (i ∷ ks) h = let p : (kindCounted k es i ≡ true) × (all (kindCounted k es) ks ≡ true) = all-parts (kindCounted k es) i ks h in (printable-at i (p .0), printable-all ks (p .1))
 
-  formula-read : (ks : List Isotope) → 0 < length ks → all (kindCounted k es) ks ≡ true → formulaShape (strip (valued (printFormula (fragment (map countedAs ks))))) ≡ some (map countedAs ks)
-  formula-read [] n h = absurd (omega arith)
-  formula-read (i ∷ ks) n h = let p : AllPrintable (map countedAs (i ∷ ks)) = printable-all (i ∷ ks) h in fragment-value (countedAs i) (map countedAs ks) (p .0) (p .1)
-
-  pub formula-line : (ks : List Isotope) → all (kindCounted k es) ks ≡ true → all inline (printFormula (fragment (map countedAs ks))) ≡ true
-  formula-line [] h = all-nil inline
-  formula-line (i ∷ ks) h = formula-inline (record { head = countedAs i; tail = map countedAs ks }) [] [] (printable-all (i ∷ ks) h) tt (all-nil inline)
-
   ranges : (ks : List Isotope) → all (kindCounted k es) ks ≡ true → all (λ (c : Counted). massOk (c .symbol) && within 1 9999 (c .count)) (map countedAs ks) ≡ true
   ranges ks h =
       all-map (λ (c : Counted). massOk (c .symbol) && within 1 9999 (c .count)) countedAs ks
@@ -174,52 +168,122 @@ module _ (k : ℕ) (most : k ≤ 103) (es : List Entry) where
       ap (λ (j : Isotope). entry j (total i es) ∷ map (λ (c : Counted). entry (isotope k (c .symbol)) (c .count)) (map countedAs ks)) q
       ∙ ap (λ (l : List Entry). totalled i ∷ l) (entries-back ks (p .1))
 
-  pub formula-taken : (st : State) (ks : List Isotope) → 0 < length ks → all (kindCounted k es) ks ≡ true →
-      formulaTurn k st (formulaShape (strip (valued (printFormula (fragment (map countedAs ks)))))) ≡ Go (withFormula st (map totalled ks))
-  unfolding formulaTurn
-  formula-taken st ks n h =
-      ap (formulaTurn k st) (formula-read ks n h)
-      ∙ rw (ranges ks h, knowns ks h) (ap (λ (l : List Entry). Go (withFormula st l)) (entries-back ks h))
-
--- THE RECORD of the atoms' formula
-any-some : (p : Isotope → Bool) (ks : List Isotope) → any p ks ≡ true → 0 < length ks
-any-some p [] h = torn (any p []) h (any-nil p)
-any-some p (k ∷ ks) h = omega arith
-
-kinds-some : (es : List Entry) → 0 < length es → 0 < length (kinds es)
-kinds-some [] h = absurd (omega arith)
-kinds-some (e ∷ es) h = go (any (sameIsotope (e .kind)) (kinds es)) refl
-  where
-    go : (t : Bool) → any (sameIsotope (e .kind)) (kinds es) ≡ t → 0 < length (kinds (e ∷ es))
-    go true q = omega (arith, ap length (kinds-again e es q), any-some (sameIsotope (e .kind)) (kinds es) q)
-    go false q = omega (arith, ap length (kinds-new e es q))
-
-entries-some : (rest : List Atom) → 0 < length rest → 0 < length (entriesOf rest)
-entries-some [] h = absurd (omega arith)
-entries-some (a ∷ rest) h = go (a .hydrogens) refl
-  where
-    go : (n : ℕ) → a .hydrogens ≡ n → 0 < length (entriesOf (a ∷ rest))
-    go zero e = omega (arith, ap length (entries-bare a rest e))
-    go (suc m) e = omega (arith, ap length (entries-implied a rest m e))
-
 -- the atoms' kinds with their totals, as the formula has them
 abbrev pub gathered : List Atom → List Entry
 gathered atoms = map (λ j. entry j (total j (entriesOf atoms))) (sort formulaBefore (kinds (entriesOf atoms)))
 
-pub formula-through : (u : Rules) (at : ℕ) (seen : List Label) (running : Holds) (texts : List Prose) (f : List Entry) (s : Structure) (atoms : List Atom) → u .elements ≤ 103 → 1 ≤ u .elements →
-    0 < length atoms → length atoms ≤ 256 → all (atomOk (u .elements)) atoms ≡ true → isNil seen ≡ false → misplaced seen formulaLabel ≡ false → over running ≡ false →
-    Through u (stateOf at seen running texts f s) (bytes "##MOLFORM=" ++ valued (printFormula (fragment (formulaOf (entriesOf atoms)))))
-    (stateOf (at + length (bytes "##MOLFORM=" ++ valued (printFormula (fragment (formulaOf (entriesOf atoms)))))) (formulaLabel ∷ seen) Formula texts (gathered atoms) s)
-unfolding formulaOf valueTurn label
-formula-through u at seen running texts f s atoms most one filled few ok begun m o =
+-- GROUPS OF ATOMS: what each has is counted, and each fragment prints
+module _ (k : ℕ) (most : k ≤ 103) (one : 1 ≤ k) where
+  abbrev Groups : List (List Atom) → Type 0
+  Groups gs = FewOf (atomOk k) 256 gs
+
+  abbrev countsOf : List Atom → List Counted
+  countsOf g = formulaOf (entriesOf g)
+
+  abbrev kindsOf : List Atom → List Isotope
+  kindsOf g = sort formulaBefore (kinds (entriesOf g))
+
+  counted-all : (g : List Atom) → all (atomOk k) g ≡ true → length g ≤ 256 → all (kindCounted k (entriesOf g)) (kindsOf g) ≡ true
+  counted-all g h few = sort-all formulaBefore (kindCounted k (entriesOf g)) (kinds (entriesOf g)) ∙ kinds-counted k one g few h
+
+  abbrev fragmentsOf : List (List Atom) → List Fragment
+  fragmentsOf gs = flat (λ g. fragment (countsOf g)) gs
+
+  print-append : (fs gs : List Fragment) → AllPrint fs → AllPrint gs → AllPrint (fs ++ gs)
+  print-append [] gs p q = q
+  print-append (f ∷ fs) gs p q = (p .0, print-append fs gs (p .1) q)
+
+  fragment-prints : (cs : List Counted) → AllPrintable cs → AllPrint (fragment cs)
+  fragment-prints [] p = tt
+  fragment-prints (c ∷ cs) p = (p, tt)
+
+  fragments-print : (gs : List (List Atom)) → Groups gs → AllPrint (fragmentsOf gs)
+  unfolding formulaOf
+  fragments-print [] p = subst AllPrint (sym (flat-nil (λ g. fragment (countsOf g)))) tt
+  fragments-print (g ∷ gs) p =
+      subst AllPrint (sym (flat-cons (λ h. fragment (countsOf h)) g gs))
+      (print-append (fragment (countsOf g)) (fragmentsOf gs) (fragment-prints (countsOf g) (printable-all k most (entriesOf g) (kindsOf g) (counted-all g (p .0 .0) (p .0 .1)))) (fragments-print gs (p .1)))
+
+  -- the entries in order, group by group
+  abbrev members : Fragment → List Counted
+  members f = f .head ∷ f .tail
+
+  entries-members : (f : Fragment) (fs : List Fragment) → entriesIn f fs ≡ flat members (f ∷ fs)
+  entries-members f [] = sym (flat-one members f)
+  entries-members f (g ∷ gs) = ap (λ (r : List Counted). members f ++ r) (entries-members g gs) ∙ sym (flat-cons members f (g ∷ gs))
+
+  fragment-members : (cs : List Counted) → flat members (fragment cs) ≡ cs
+  fragment-members [] = flat-nil members
+  fragment-members (c ∷ cs) = flat-one members (record { head = c; tail = cs })
+
+  members-are : (gs : List (List Atom)) → flat members (fragmentsOf gs) ≡ flat countsOf gs
+  members-are [] = ap (flat members) (flat-nil (λ g. fragment (countsOf g))) ∙ flat-nil members ∙ sym (flat-nil countsOf)
+  members-are (g ∷ gs) =
+      ap (flat members) (flat-cons (λ h. fragment (countsOf h)) g gs) ∙ flat-append members (fragment (countsOf g)) (fragmentsOf gs)
+      ∙ ap (λ (r : List Counted). r ++ flat members (fragmentsOf gs)) (fragment-members (countsOf g)) ∙ ap (λ (r : List Counted). countsOf g ++ r) (members-are gs) ∙ sym (flat-cons countsOf g gs)
+
+  formula-read : (fs : List Fragment) → AllPrint fs → 0 < length fs → formulaShape (strip (valued (printFormula fs))) ≡ some (flat members fs)
+  formula-read [] p n = absurd (omega (arith, n))
+  formula-read (f ∷ fs) p n = formula-value f fs (p .0) (p .1) ∙ ap some (entries-members f fs)
+
+  formula-line : (fs : List Fragment) → AllPrint fs → all inline (printFormula fs) ≡ true
+  formula-line [] p = all-nil inline
+  formula-line (f ∷ fs) p = formula-inline f fs [] (p .0) (p .1) (all-nil inline)
+
+  -- what is printed is in range and known, and stands for what the groups have
+  groups-ranged : (gs : List (List Atom)) → Groups gs → all (λ (c : Counted). massOk (c .symbol) && within 1 9999 (c .count)) (flat countsOf gs) ≡ true
+  unfolding formulaOf
+  groups-ranged [] p = ap (all (λ (c : Counted). massOk (c .symbol) && within 1 9999 (c .count))) (flat-nil countsOf) ∙ all-nil _
+  groups-ranged (g ∷ gs) p =
+      ap (all (λ (c : Counted). massOk (c .symbol) && within 1 9999 (c .count))) (flat-cons countsOf g gs)
+      ∙ all-append-both (λ (c : Counted). massOk (c .symbol) && within 1 9999 (c .count)) (countsOf g) (flat countsOf gs) (ranges k most (entriesOf g) (kindsOf g) (counted-all g (p .0 .0) (p .0 .1))) (groups-ranged gs (p .1))
+
+  groups-known : (gs : List (List Atom)) → Groups gs → any (λ (c : Counted). unknown k (c .symbol)) (flat countsOf gs) ≡ false
+  unfolding formulaOf
+  groups-known [] p = ap (any (λ (c : Counted). unknown k (c .symbol))) (flat-nil countsOf) ∙ any-nil _
+  groups-known (g ∷ gs) p =
+      ap (any (λ (c : Counted). unknown k (c .symbol))) (flat-cons countsOf g gs) ∙ any-append (λ (c : Counted). unknown k (c .symbol)) (countsOf g) (flat countsOf gs)
+      ∙ or-neither _ _ (knowns k most (entriesOf g) (kindsOf g) (counted-all g (p .0 .0) (p .0 .1))) (groups-known gs (p .1))
+
+  groups-back : (gs : List (List Atom)) → Groups gs → map (λ (c : Counted). entry (isotope k (c .symbol)) (c .count)) (flat countsOf gs) ≡ flat gathered gs
+  unfolding formulaOf
+  groups-back [] p = ap (map (λ (c : Counted). entry (isotope k (c .symbol)) (c .count))) (flat-nil countsOf) ∙ sym (flat-nil gathered)
+  groups-back (g ∷ gs) p =
+      ap (map (λ (c : Counted). entry (isotope k (c .symbol)) (c .count))) (flat-cons countsOf g gs) ∙ map-append (λ (c : Counted). entry (isotope k (c .symbol)) (c .count)) (countsOf g) (flat countsOf gs)
+      ∙ ap (λ (r : List Entry). r ++ map (λ (c : Counted). entry (isotope k (c .symbol)) (c .count)) (flat countsOf gs)) (entries-back k most (entriesOf g) (kindsOf g) (counted-all g (p .0 .0) (p .0 .1)))
+      ∙ ap (λ (r : List Entry). gathered g ++ r) (groups-back gs (p .1)) ∙ sym (flat-cons gathered g gs)
+
+  -- A FORMULA WITH A TOTAL is not without a fragment
+  pub some-fragment : (gs : List (List Atom)) → Groups gs → (i : Isotope) → 0 < total i (flat gathered gs) → 0 < length (fragmentsOf gs)
+  some-fragment gs p i h = by (fragmentsOf gs) refl
+    where
+      by : (fs : List Fragment) → fragmentsOf gs ≡ fs → 0 < length (fragmentsOf gs)
+      by [] e =
+          let q : flat gathered gs ≡ [] = sym (groups-back gs p) ∙ ap (map (λ (c : Counted). entry (isotope k (c .symbol)) (c .count))) (sym (members-are gs) ∙ ap (flat members) e ∙ flat-nil members) in
+          absurd (omega (arith, h, ap (total i) q, total-nil i))
+      by (f ∷ fs) e = omega (arith, ap length e)
+
+  pub formula-told : (gs : List (List Atom)) → Groups gs → 0 < length (fragmentsOf gs) → entriesAs k (formulaShape (strip (valued (printFormula (fragmentsOf gs))))) ≡ flat gathered gs
+  formula-told gs p n = ap (entriesAs k) (formula-read (fragmentsOf gs) (fragments-print gs p) n ∙ ap some (members-are gs)) ∙ groups-back gs p
+
+  pub formula-taken : (st : State) (gs : List (List Atom)) → Groups gs → 0 < length (fragmentsOf gs) → formulaTurn k st (formulaShape (strip (valued (printFormula (fragmentsOf gs))))) ≡ Go (withFormula st (flat gathered gs))
+  unfolding formulaTurn
+  formula-taken st gs p n =
+      ap (formulaTurn k st) (formula-read (fragmentsOf gs) (fragments-print gs p) n ∙ ap some (members-are gs))
+      ∙ rw (groups-ranged gs p, groups-known gs p) (ap (λ (l : List Entry). Go (withFormula st l)) (groups-back gs p))
+
+-- THE RECORD of the groups' formula
+pub formula-through : (u : Rules) (at : ℕ) (seen : List Label) (running : Holds) (texts : List Prose) (f : List Entry) (s : Structure) (gs : List (List Atom)) (most : u .elements ≤ 103) (one : 1 ≤ u .elements) →
+    FewOf (atomOk (u .elements)) 256 gs → (i : Isotope) → 0 < total i (flat gathered gs) → isNil seen ≡ false → misplaced seen formulaLabel ≡ false → over running ≡ false →
+    Through u (stateOf at seen running texts f s) (bytes "##MOLFORM=" ++ valued (printFormula (flat (λ g. fragment (formulaOf (entriesOf g))) gs)))
+    (stateOf (at + length (bytes "##MOLFORM=" ++ valued (printFormula (flat (λ g. fragment (formulaOf (entriesOf g))) gs)))) (formulaLabel ∷ seen) Formula texts (flat gathered gs) s)
+unfolding valueTurn label
+formula-through u at seen running texts f s gs most one ok i filled begun m o =
     let k : ℕ = u .elements in
-    let es : List Entry = entriesOf atoms in
-    let ks : List Isotope = sort formulaBefore (kinds es) in
-    let h : all (kindCounted k es) ks ≡ true = sort-all formulaBefore (kindCounted k es) (kinds es) ∙ kinds-counted k one atoms few ok in
-    let n : 0 < length ks = omega (arith, sort-length formulaBefore (kinds es), kinds-some es (entries-some atoms filled)) in
-    let v : Bytes = printFormula (fragment (formulaOf es)) in
-    let i : all inline v ≡ true = formula-line k most es ks h in
+    let v : Bytes = printFormula (flat (λ g. fragment (formulaOf (entriesOf g))) gs) in
+    let n : 0 < length (flat (λ g. fragment (formulaOf (entriesOf g))) gs) = some-fragment k most one gs ok i filled in
+    let l : all inline v ≡ true = formula-line k most one (flat (λ g. fragment (formulaOf (entriesOf g))) gs) (fragments-print k most one gs ok) in
     let before : State = stateOf at seen running texts f s in
     let st : State = stateOf at (formulaLabel ∷ seen) Formula texts f s in
-    through-line u before (stateOf at (formulaLabel ∷ seen) Formula texts (gathered atoms) s) (bytes "##MOLFORM=" ++ valued v) (record-full (bytes "##MOLFORM=") v (formula-written .one) i)
-    (label-value u before (bytes "##MOLFORM=") formulaLabel formula-written begun m o Formula refl refl (valued v) (valued-allowed v (inline-fine v i)) ∙ formula-taken k most es st ks n h)
+    through-line u before (stateOf at (formulaLabel ∷ seen) Formula texts (flat gathered gs) s) (bytes "##MOLFORM=" ++ valued v) (record-full (bytes "##MOLFORM=") v (formula-written .one) l)
+    (label-value u before (bytes "##MOLFORM=") formulaLabel formula-written begun m o Formula refl refl (valued v) (valued-allowed v (inline-fine v l)) ∙ formula-taken k most one st gs ok n)

@@ -12,7 +12,7 @@ use Rattle.demands.specs.Starred.{starred}
 use Rattle.demands.specs.Neighbours.{neighbours}
 use Rattle.demands.specs.Placings.{placings}
 use Rattle.demands.specs.Handings.{handings}
-use Rattle.demands.specs.Examples.{formicInput, formicWritten, formicTable, placedNeon, placedPositions, cycloocteneInput, cycloocteneWritten, cycloocteneTable, neon, exampleFile, printedAll, exampleLines}
+use Rattle.demands.specs.Examples.{formicInput, formicWritten, formicTable, placedNeon, placedPositions, cycloocteneInput, cycloocteneWritten, cycloocteneTable, hydrateInput, hydrateWritten, hydrateTable, neon, exampleFile, printedAll, exampleLines}
 use Rattle.format.proofs.Computing.{computing}
 
 pub starred-hold : map judged starred ≡ map (λ c. c .answer) starred
@@ -53,6 +53,15 @@ cyclooctene-read = refl
 pub cyclooctene-written : writeResult 103 cycloocteneTable (bytes cycloocteneInput) (replicate 294 7) ≡ record { number = 0; count = 292; buffer = bytes cycloocteneWritten ++ (7 ∷ 7 ∷ []) }
 unfolding computing cycloocteneTable
 cyclooctene-written = refl
+
+-- the hydrate, in the same way
+pub hydrate-read : readResult 103 (bytes hydrateInput) ample ≡ readAnswer 0 0 (lent hydrateTable (noughts 1024))
+unfolding computing hydrateTable
+hydrate-read = refl
+
+pub hydrate-written : writeResult 103 hydrateTable (bytes hydrateInput) (replicate 236 7) ≡ record { number = 0; count = 234; buffer = bytes hydrateWritten ++ (7 ∷ 7 ∷ []) }
+unfolding computing hydrateTable
+hydrate-written = refl
 
 -- the walk's example: its four lines, and single steps
 pub example-walked : printedAll (answers 103 exampleFile) ≡ some exampleLines

@@ -1,4 +1,4 @@
--- The three demands of document 01, as document 02, L2 and L4, has changed them, each one record of its statements, for the elements 1 to k: what the front file proves
+-- The three demands of document 01, as document 02, L1, L2 and L4, has changed them, each one record of its statements, for the elements 1 to k: what the front file proves
 -- for every k in its range, here for one. Assumes nothing.
 use Prim.Native.Nat.{ℕ, _+_, _<_, _≤_}
 use mathlib.Core.Path.{_≡_}
@@ -11,21 +11,23 @@ use lib.IntN.{ℤ, pos}
 use lib.Dec.{ltb}
 use lib.Ieee.{Float}
 use Rattle.lists.specs.Lists.{all, any}
-use Rattle.format.specs.Bytes.{Bytes, isIn, cut, whole}
+use Rattle.format.specs.Bytes.{Bytes, isIn, cut, strip, whole}
 use Rattle.format.specs.Labels.{endLine}
 use Rattle.format.specs.Coordinates.{Geometry, positionTable}
-use Rattle.format.specs.Structure.{Structure, wellFormed}
+use Rattle.format.specs.Formula.{formulaShape}
+use Rattle.format.specs.Structure.{Isotope, entriesOf, total, Structure, wellFormed}
 use Rattle.format.specs.Reading.{strict, Span, Read, readBlock}
 use Rattle.format.specs.Table.{zeros, encode, textFine, textAt, sound, Lent, lent, noughts, short, overlaid, readAnswer, readResult}
-use Rattle.format.specs.Writing.{canonical, formOf, unwritten, writtenAs, writeResult}
+use Rattle.format.specs.Writing.{formulaOf, fragments, printFormula, valued, canonical, formOf, unwritten, writtenAs, writeResult}
 use Rattle.format.specs.Walking.{block, piece, pieces, Answer, toldOf, answers}
 use Rattle.demands.specs.Stretches.{closing, opening, moved, _then_, textsTold, textsFrom}
 use Rattle.demands.specs.WayBack.{ReadBack, TableBack, WrittenAgain, OneBlock}
-use Rattle.demands.specs.Accepted.{Obeys, _exactlyWhen_}
+use Rattle.demands.specs.Accepted.{entriesAs, Obeys, _exactlyWhen_}
 use Rattle.demands.specs.ReadAs.{structureIn, spansIn, geometryIn}
 use Rattle.demands.specs.ReadWritten.{formIn}
 use Rattle.demands.specs.Positions.{PositionTold}
 use Rattle.demands.specs.Handed.{numberAt, HandedTold, HandedAlone}
+use Rattle.demands.specs.Groups.{Joined, lowestIn, AtomOf, IsLowest, lowestAtoms, groupIn, entriesIn}
 
 pub record Demand1 (k : ℕ) : Type 0 where
   -- "A refused reading zeroes the structure table, save where that table is too short and is untouched."; L2: positions are "cleared on refusals other than 1"; "a short
@@ -48,6 +50,12 @@ pub record Demand2 (k : ℕ) : Type 0 where
   -- L4: number 13 is 1 exactly when the block has its YES, else 0; a sound table with 13 set has no centres and no pairs
   pub handed-given : (b : Bytes) (l : Lent) → short l ≡ false → readResult k b l .number ≡ 0 → HandedTold b (readResult k b l .after .table)
   pub handed-alone : (t : List ℤ) (b : Bytes) → sound k t b ≡ true → (numberAt 13 t ≡ pos 0 → ⊥) → HandedAlone t
+  -- L1: atoms are of one group exactly where a path of S, D, T or Q bonds joins them; the written formula has one fragment for each group, in order of their lowest atom,
+  -- and its totals are the atoms'
+  pub same-group-iff-path : (s : Structure) → wellFormed k s ≡ true → (a b : ℕ) → AtomOf s a → AtomOf s b → (lowestIn s a ≡ lowestIn s b) exactlyWhen Joined (s .bonds) a b
+  pub lowest-of-group : (s : Structure) → wellFormed k s ≡ true → (a : ℕ) → AtomOf s a → IsLowest s a
+  pub fragment-for-each-group : (s : Structure) → wellFormed k s ≡ true → map entriesIn (fragments s) ≡ map (λ i. formulaOf (entriesOf (groupIn s i))) (lowestAtoms s)
+  pub fragments-total : (s : Structure) → wellFormed k s ≡ true → (i : Isotope) → total i (entriesAs k (formulaShape (strip (valued (printFormula (fragments s)))))) ≡ total i (entriesOf (s .atoms))
   -- what was read can be written, and read again it is the same table with the same texts
   pub read-written : (b : Bytes) (l : Lent) → short l ≡ false → readResult k b l .number ≡ 0 → (buffer : Bytes) →
       writeResult k (readResult k b l .after .table) b buffer ≡ writtenAs (ltb 32768 (length (formIn k b))) (ltb (length buffer) (length (formIn k b))) (formIn k b) buffer

@@ -65,6 +65,28 @@ cycloocteneTable =
     ∷ pos 6 ∷ pos 7 ∷ pos 1 ∷ pos 7 ∷ pos 8 ∷ pos 1 ∷ (zeros 1512
     ++ (pos 1 ∷ (zeros 63 ++ (pos 1 ∷ zeros 959))))))
 
+-- L1: two waters, a sodium and a formate; the waters are bound to the sodium by `A`. The formula is one lump
+abbrev pub hydrateInput : String
+hydrateInput = "##TITLE= sodium formate dihydrate\n##JCAMP-CS= 3.7\n##ORIGIN= bench 4\n##OWNER= public domain\n##MOLFORM= C H5 Na O4\n##ATOMLIST=\n1 O 2\n2 Na\n3 C 1\n4 O\n5 O\n6 O 2\n##BONDLIST=\n1 2 A\n2 6 A\n3 4 D\n3 5 S\n##CHARGE=\n+1 2\n-1 5\n##END=\n"
+
+-- as it is written: a fragment for each group, by its lowest atom and not by its symbols; the two waters are two fragments, and each hydrogen stands in its atom's
+abbrev pub hydrateWritten : String
+hydrateWritten = "##TITLE= sodium formate dihydrate\n##JCAMP-CS= 3.7\n##ORIGIN= bench 4\n##OWNER= public domain\n##MOLFORM= H2 O * Na * C H O2 * H2 O\n##ATOMLIST=\n1 O 2\n2 Na\n3 C 1\n4 O\n5 O\n6 O 2\n##BONDLIST=\n1 2 A\n2 6 A\n3 4 D\n3 5 S\n##CHARGE=\n+1 2\n-1 5\n##END=\n"
+
+-- its table: 6 atoms, 4 bonds and 2 charge rows; where the texts stand; O with two hydrogens, Na in the first row, C with one hydrogen, O, O in the second row, O with two
+-- hydrogens; the bonds; +1 and -1
+unfoldable pub hydrateTable : List ℤ
+hydrateTable =
+    pos 6 ∷ pos 4 ∷ pos 2 ∷ pos 0 ∷ pos 0 ∷ pos 0 ∷ pos 0 ∷ pos 9 ∷ pos 24 ∷ pos 60 ∷ pos 7 ∷ pos 77 ∷ pos 13 ∷ pos 0 ∷ pos 0 ∷ pos 0
+    ∷ pos 8 ∷ pos 0 ∷ pos 2 ∷ pos 0 ∷ pos 0
+    ∷ pos 11 ∷ pos 0 ∷ pos 0 ∷ pos 1 ∷ pos 0
+    ∷ pos 6 ∷ pos 0 ∷ pos 1 ∷ pos 0 ∷ pos 0
+    ∷ pos 8 ∷ pos 0 ∷ pos 0 ∷ pos 0 ∷ pos 0
+    ∷ pos 8 ∷ pos 0 ∷ pos 0 ∷ pos 2 ∷ pos 0
+    ∷ pos 8 ∷ pos 0 ∷ pos 2 ∷ pos 0 ∷ pos 0 ∷ (zeros 1250
+    ++ (pos 1 ∷ pos 2 ∷ pos 5 ∷ pos 2 ∷ pos 6 ∷ pos 5 ∷ pos 3 ∷ pos 4 ∷ pos 2 ∷ pos 3 ∷ pos 5 ∷ pos 1 ∷ (zeros 1524
+    ++ (pos 1 ∷ negsuc 0 ∷ zeros 1022))))
+
 -- "That block, the line `junk`, the block with `2 Ne` instead, and a lone `##TITLE= a` line"
 abbrev pub neon : String
 neon = "##TITLE= a\n##JCAMP-CS= 3.7\n##ORIGIN= b\n##OWNER= c\n##MOLFORM= Ne\n##ATOMLIST=\n1 Ne\n##END=\n"

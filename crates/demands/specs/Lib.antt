@@ -10,6 +10,7 @@ pub mod WayBack
 pub mod Accepted
 pub mod Positions
 pub mod Handed
+pub mod Groups
 pub mod ReadAs
 pub mod ReadWritten
 pub mod Places

@@ -1,24 +1,20 @@
--- The formula printed entry by entry is the definition's one fragment: document 01, "The one written form". Assumes nothing.
+-- The formula printed entry by entry, each parted from the one before: document 01, "The one written form", and document 02, L1. Assumes nothing.
 use Prim.Native.Nat.{ℕ, _+_, _/_, _%_, _≤_, _<_}
-use mathlib.Core.Path.{_≡_, refl, sym, ap, _∙_}
-use mathlib.Core.Bool.{true}
+use mathlib.Core.Path.{_≡_, sym, ap, ap₂, _∙_}
 use mathlib.Core.List.{List, [], _∷_, _++_, append-nil}
+use native.Mathlib.Numerals.{add-one}
 use native.Mathlib.Omega.{arith}
 use borrow.Author.Tests.{eq-eqb, ne-eqb}
-use lib.ListN.{length, getD, drop, length-append, drop-of-length-le}
-use Rattle.lists.specs.Lists.{all}
-use Rattle.lists.proofs.PartLaws.{flat-nil, flat-cons}
-use Rattle.format.specs.Bytes.{Bytes, bytes}
-use Rattle.format.specs.Formula.{Counted}
-use Rattle.format.specs.Structure.{isotopeOf, Atom, atomOk, entriesOf, letters}
-use Rattle.format.specs.Writing.{digits, spelt, printMass, printSym, formulaOf, printCount, printEntry, fragment, printFragment, printFragments, printFormula, valued, printRecord}
+use lib.ListN.{length, getD, take, drop, drop-of-length-le}
+use lib.Seq.{drop-cons, getD-take, length-take-le}
+use Rattle.format.specs.Bytes.{Bytes}
+use Rattle.format.specs.Structure.{isotopeOf}
+use Rattle.format.specs.Writing.{digits, spelt, printSym, printCount, printEntry}
 use Rattle.tally.specs.Ranks.{elementOf}
-use Rattle.tally.specs.Gathering.{Gathered, entryOf}
-use Rattle.tally.proofs.EntryLaws.{formula-long, formula-next}
+use Rattle.tally.specs.Gathering.{entryOf}
 use Rattle.printing.specs.Printing.{Laid, Rests}
-use Rattle.form.specs.Entries.{entriesText, EntriesLaid, FormulaLaid}
+use Rattle.form.specs.Entries.{parted, pieces, entriesText}
 use Rattle.printing.proofs.PrintLaws.{laid-then, laid-as, rest-on, rest-none}
-use Rattle.form.proofs.RecordLaws.{valued-none, valued-some}
 
 -- ONE ENTRY
 module _ (k n e : ℕ) (is : e ≡ elementOf (k / 512)) where
@@ -40,47 +36,37 @@ module _ (k n e : ℕ) (is : e ≡ elementOf (k / 512)) where
   pub entry-more : {b b₁ b₂ : Bytes} {at r₁ r₂ : ℕ} → (n ≡ 1 → ⊥) → Laid b at (printSym (spelt (isotopeOf e (k % 512)))) b₁ r₁ → Laid b₁ r₁ (digits n) b₂ r₂ → Laid b at (printEntry (entryOf k n)) b₂ r₂
   entry-more f l m = laid-as (more-is f) (laid-then l m)
 
+-- WHAT PARTS TWO ENTRIES
+pub parted-same : (g h : ℕ) → g ≡ h → 32 ∷ [] ≡ parted g h
+parted-same g h e = rw (eq-eqb g h e, parted)
+
+pub parted-other : (g h : ℕ) → (g ≡ h → ⊥) → 32 ∷ 42 ∷ 32 ∷ [] ≡ parted g h
+parted-other g h n = rw (ne-eqb g h n, parted)
+
 -- ENTRY BY ENTRY
-module _ (n : ℕ) (keys counts : List ℕ) where
-  abbrev pub EntriesRest : (b : Bytes) (at : ℕ) (now : Bytes) (here i : ℕ) → Type 0
-  EntriesRest b at now here i =
-      (atoms : List Atom) → all (atomOk 103) atoms ≡ true → Gathered atoms n keys counts → Rests b at (entriesText (formulaOf (entriesOf atoms))) now here (entriesText (drop i (formulaOf (entriesOf atoms))))
+pieces-at : (g : ℕ) (ks ns : List ℕ) (i : ℕ) → i < length ks → i < length ns → pieces g (drop i ks) (drop i ns)
+    ≡ (parted g (getD ks i 0 / 65536) ++ printEntry (entryOf (getD ks i 0 % 65536) (getD ns i 0))) ++ pieces (getD ks i 0 / 65536) (drop (i + 1) ks) (drop (i + 1) ns)
+unfolding pieces
+pieces-at g ks ns i h k =
+    ap₂ (pieces g) (drop-cons ks i 0 h) (drop-cons ns i 0 k)
+    ∙ ap₂ (λ (xs ys : List ℕ). (parted g (getD ks i 0 / 65536) ++ printEntry (entryOf (getD ks i 0 % 65536) (getD ns i 0))) ++ pieces (getD ks i 0 / 65536) xs ys) (ap (λ (j : ℕ). drop j ks) (sym (add-one i))) (ap (λ (j : ℕ). drop j ns) (sym (add-one i)))
 
-  pub entries-on : {b now now′ : Bytes} {at here here′ : ℕ} (i : ℕ) → i < n → Laid now here (32 ∷ printEntry (entryOf (getD keys i 0) (getD counts i 0))) now′ here′ → EntriesRest b at now here i → EntriesRest b at now′ here′ (i + 1)
-  entries-on i h l before atoms ok g =
+abbrev pub EntriesRest : (n : ℕ) (keys counts : List ℕ) (b : Bytes) (at : ℕ) (now : Bytes) (here group i : ℕ) → Type 0
+EntriesRest n keys counts b at now here group i = Rests b at (entriesText n keys counts) now here (pieces group (drop i (take n keys)) (drop i (take n counts)))
+
+module _ (n : ℕ) (keys counts : List ℕ) (long : n ≤ length keys) (wide : n ≤ length counts) where
+  pub entries-on : {b now now′ : Bytes} {at here here′ : ℕ} (group i : ℕ) → i < n → Laid now here (parted group (getD keys i 0 / 65536) ++ printEntry (entryOf (getD keys i 0 % 65536) (getD counts i 0))) now′ here′
+      → EntriesRest n keys counts b at now here group i → EntriesRest n keys counts b at now′ here′ (getD keys i 0 / 65536) (i + 1)
+  entries-on group i h l before =
+      let k : getD (take n keys) i 0 ≡ getD keys i 0 = getD-take n keys i 0 h in
+      let m : getD (take n counts) i 0 ≡ getD counts i 0 = getD-take n counts i 0 h in
       rest-on
-      (ap entriesText (formula-next atoms ok n keys counts g i h) ∙ flat-cons (λ e. 32 ∷ printEntry e) (entryOf (getD keys i 0) (getD counts i 0)) (drop (i + 1) (formulaOf (entriesOf atoms))))
+      (pieces-at group (take n keys) (take n counts) i (omega (arith, h, length-take-le n keys long)) (omega (arith, h, length-take-le n counts wide))
+      ∙ ap₂ (λ (x y : ℕ). (parted group (x / 65536) ++ printEntry (entryOf (x % 65536) y)) ++ pieces (x / 65536) (drop (i + 1) (take n keys)) (drop (i + 1) (take n counts))) k m)
       l
-      (before atoms ok g)
+      before
 
-  pub entries-end : {b now : Bytes} {at here : ℕ} (i : ℕ) → n ≤ i → EntriesRest b at now here i → EntriesLaid n keys counts b at now here
-  entries-end i h before atoms ok g =
-      rest-none (ap entriesText (drop-of-length-le (formulaOf (entriesOf atoms)) {i = i} (omega (arith, formula-long atoms ok n keys counts g))) ∙ flat-nil (λ e. 32 ∷ printEntry e)) (before atoms ok g)
-
--- ONE FRAGMENT
-fragment-text : (e : Counted) (es : List Counted) → printFragment e es [] ≡ printEntry e ++ entriesText es
-unfolding printFragment
-fragment-text e [] = ap (λ v. printEntry e ++ v) (sym (flat-nil (λ x. 32 ∷ printEntry x)))
-fragment-text e (f ∷ fs) = ap (λ v. printEntry e ++ (32 ∷ v)) (fragment-text f fs) ∙ sym (ap (λ v. printEntry e ++ v) (flat-cons (λ x. 32 ∷ printEntry x) f fs))
-
-entry-some : (e : Counted) (v : Bytes) → length (printEntry e ++ v) ≡ 0 → ⊥
-unfolding printEntry printSym
-entry-some e v h =
-    omega (
-      arith,
-      h,
-      length-append (printEntry e) v,
-      length-append (printSym (e .symbol)) (printCount (e .count)),
-      length-append (printMass (e .symbol .caret) (e .symbol .mass)) (letters (e .symbol)),
-    )
-
-value-is : (es : List Counted) → entriesText es ++ (10 ∷ []) ≡ valued (printFormula (fragment es))
-unfolding printFragments
-value-is [] = ap (λ v. v ++ (10 ∷ [])) (flat-nil (λ x. 32 ∷ printEntry x)) ∙ valued-none [] refl
-value-is (e ∷ es) =
-    ap (λ v. v ++ (10 ∷ [])) (flat-cons (λ x. 32 ∷ printEntry x) e es) ∙ valued-some (printEntry e ++ entriesText es) (entry-some e (entriesText es)) ∙ ap valued (sym (fragment-text e es))
-
-pub formula-laid : {b b₁ b₂ b₃ : Bytes} {at r₁ r₂ r₃ : ℕ} (n : ℕ) (keys counts : List ℕ)
-    → Laid b at (bytes "##MOLFORM=") b₁ r₁ → EntriesLaid n keys counts b₁ r₁ b₂ r₂ → Laid b₂ r₂ (10 ∷ []) b₃ r₃ → FormulaLaid n keys counts b at b₃ r₃
-unfolding printRecord
-formula-laid n keys counts p q s atoms ok g = laid-as (ap (λ v. bytes "##MOLFORM=" ++ v) (value-is (formulaOf (entriesOf atoms)))) (laid-then p (laid-then (q atoms ok g) s))
+  pub entries-end : {b now : Bytes} {at here : ℕ} (group i : ℕ) → n ≤ i → EntriesRest n keys counts b at now here group i → Laid b at (entriesText n keys counts) now here
+  unfolding pieces
+  entries-end group i h before =
+      rest-none (ap (λ (ks : List ℕ). pieces group ks (drop i (take n counts))) (drop-of-length-le (take n keys) {i = i} (omega (arith, h, length-take-le n keys long)))) before

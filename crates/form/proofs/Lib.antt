@@ -2,4 +2,5 @@
 pub mod ListingLaws
 pub mod RecordLaws
 pub mod EntryLaws
+pub mod FragmentLaws
 pub mod FormLaws

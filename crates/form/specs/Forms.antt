@@ -6,7 +6,7 @@ use mathlib.Core.List.{List}
 use lib.IntN.{ℤ}
 use Rattle.lists.specs.Lists.{all}
 use Rattle.format.specs.Bytes.{Bytes}
-use Rattle.format.specs.Structure.{atomOk}
+use Rattle.format.specs.Structure.{atomOk, groups as groupsOf}
 use Rattle.format.specs.Table.{decode}
 use Rattle.format.specs.Writing.{formOf}
 use Rattle.tally.specs.Gathering.{Gathered}
@@ -16,7 +16,7 @@ use Rattle.form.specs.Listing.{GroupsFit}
 pub record Printable (t : List ℤ) (n : ℕ) (keys counts : List ℕ) : Type 0 where
   pub atoms : all (atomOk 103) (decode t .atoms) ≡ true
   pub groups : GroupsFit t
-  pub entries : Gathered (decode t .atoms) n keys counts
+  pub entries : Gathered (groupsOf (decode t)) n keys counts
 
 abbrev pub FormLaid : List ℤ → Bytes → (n : ℕ) (keys counts : List ℕ) (buffer later : Bytes) (r : ℕ) → Type 0
 FormLaid t b n keys counts buffer later r = Printable t n keys counts → Laid buffer 0 (formOf t b) later r

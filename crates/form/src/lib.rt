@@ -35,7 +35,7 @@ fn put_records(
     counts: &[u32; ENTRIES],
     entries: usize,
 ) -> usize
-    requires { ⌜ (3856 ≤ length (now table)) × (entries ≤ 257) ⌝ }
+    requires { ⌜ (3856 ≤ length (now table)) × (entries ≤ 512) ⌝ }
     ensures { λ r. ⌜ FormLaid (now (table .entry)) (now (bytes .entry)) entries (now (keys .entry)) (now (counts .entry)) (now (buffer .entry)) (now (buffer .exit)) r ⌝ }
 {
     let title = put_span(buffer, 0, b"##TITLE=", table, TITLE, bytes);
@@ -60,7 +60,7 @@ pub fn put_form(
     counts: &[u32; ENTRIES],
     entries: usize,
 ) -> usize
-    ensures { λ r. ⌜ ((3856 ≤ length (now (table .entry))) × (entries ≤ 257) → FormLaid (now (table .entry)) (now (bytes .entry)) entries (now (keys .entry)) (now (counts .entry)) (now (buffer .entry)) (now (buffer .exit)) r) × (length (now (table .entry)) < 3856 → Untouched (now (buffer .entry)) 0 (now (buffer .exit)) r) × (257 < entries → Untouched (now (buffer .entry)) 0 (now (buffer .exit)) r) ⌝ }
+    ensures { λ r. ⌜ ((3856 ≤ length (now (table .entry))) × (entries ≤ 512) → FormLaid (now (table .entry)) (now (bytes .entry)) entries (now (keys .entry)) (now (counts .entry)) (now (buffer .entry)) (now (buffer .exit)) r) × (length (now (table .entry)) < 3856 → Untouched (now (buffer .entry)) 0 (now (buffer .exit)) r) × (512 < entries → Untouched (now (buffer .entry)) 0 (now (buffer .exit)) r) ⌝ }
 {
     if table.len() < Table::SIZE {
         return 0;

@@ -10,10 +10,10 @@ ghost use Rattle.format.specs.Writing.{listLabel, printRecord, printAtoms, prin
 ghost use Rattle.printing.specs.Printing.{Laid};
 ghost use Rattle.rowform.specs.Lines.{listOf};
 ghost use Rattle.form.specs.Listing.{RowsLaid, ListLaid, GroupsFit};
+use cells::count_at;
 use format::Table;
 use printing::put_text;
 use rowform::Listed;
-use rowform::count_at;
 use rowform::put_atom;
 use rowform::put_row;
 

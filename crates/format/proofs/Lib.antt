@@ -26,3 +26,4 @@ pub mod GrammarLaws
 pub mod TotalLaws
 pub mod RowLines
 pub mod RowLaws
+pub mod GroupLaws

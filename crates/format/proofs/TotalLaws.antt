@@ -7,7 +7,7 @@ use mathlib.Core.List.{List, [], _∷_, _++_, map}
 use native.Mathlib.Omega.{arith}
 use lib.Dec.{eqb, ltb}
 use borrow.Author.Tests.{eq-eqb, eqb-true, ltb-true, lt-ltb}
-use Rattle.lists.specs.Lists.{all, any, pairs}
+use Rattle.lists.specs.Lists.{share, all, any, pairs}
 use Rattle.lists.specs.Order.{Perm, empty, keeping, swapped, chained, sort}
 use Rattle.lists.proofs.Bools.{torn, and-parts, eqb-same, eqb-symm}
 use Rattle.lists.proofs.ListLaws.{all-nil, all-parts, all-both, any-nil, any-cons, any-hit, any-miss, any-parts, any-same}
@@ -51,10 +51,6 @@ module _ (i : Isotope) where
   total-miss e es h = rw (h, total)
 
 -- what an entry adds to a total
-abbrev pub share : Bool → ℕ → ℕ
-share true n = n
-share false n = 0
-
 pub total-cons : (i : Isotope) (e : Entry) (es : List Entry) → total i (e ∷ es) ≡ share (sameIsotope i (e .kind)) (e .count) + total i es
 total-cons i e es = go (sameIsotope i (e .kind)) refl
   where

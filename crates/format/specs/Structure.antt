@@ -1,12 +1,12 @@
 -- Elements, and what a structure is: document 01, "Rows" and "The structure table". Wherever a symbol is looked up, k is the number of elements in the list, 103
 -- now. Where the paper is wider: it lets an atom stand in two charges; document 01 does not. Assumes nothing.
-use Prim.Native.Nat.{ℕ, zero, suc, _+_}
+use Prim.Native.Nat.{ℕ, zero, suc, _+_, _-_, min}
 use mathlib.Core.Bool.{Bool, true, false, _&&_, _||_, not}
-use mathlib.Core.List.{List, [], _∷_, _++_}
-use lib.ListN.{length, take}
+use mathlib.Core.List.{List, [], _∷_, _++_, map}
+use lib.ListN.{length, getD, take}
 use lib.IntN.{ℤ, pos, negsuc, natAbs}
 use lib.Dec.{eqb, ltb, leb}
-use Rattle.lists.specs.Lists.{isNil, all, any, pairs}
+use Rattle.lists.specs.Lists.{isNil, all, any, pairs, countUp}
 use Rattle.lists.specs.Order.{lexBefore, ascends}
 use Rattle.format.specs.Bytes.{Bytes, bytes, within, isIn, same, fields}
 use Rattle.format.specs.Labels.{ListOf, Bonds, Charges, Radicals, Centres, Pairs}
@@ -150,6 +150,36 @@ kinds (e ∷ es) = elim (any (sameIsotope (e .kind)) (kinds es)) [ true ↦ kind
 -- "for every element and mass, the formula's total over all fragments equals the atoms listed": those that stand on neither side have total 0 on both
 unfoldable pub agree : List Entry → List Entry → Bool
 agree es fs = all (λ i. eqb (total i es) (total i fs)) (kinds (es ++ fs))
+
+-- GROUPS (L1): "each group of atoms joined by S, D, T or Q bonds, `A` not counting, in order of their lowest atom". For each atom in turn the lowest atom of its
+-- group: without bonds it is the atom itself, and a bond that joins gives two groups the lower of their two.
+abbrev pub joins : Row → Bool
+joins r = within 1 4 (natAbs (r .value))
+
+abbrev pub united : (a b : ℕ) → List ℕ → List ℕ
+united a b ls = map (λ l. elim (eqb l a || eqb l b) [ true ↦ min a b | false ↦ l ]) ls
+
+abbrev pub lowestOf : List ℕ → (atom : ℕ) → ℕ
+lowestOf ls n = getD ls (n - 1) 0
+
+abbrev pub joinedBy : Row → List ℕ → List ℕ
+joinedBy r ls = elim (joins r) [ true ↦ united (lowestOf ls (getD (r .atoms) 0 0)) (lowestOf ls (getD (r .atoms) 1 0)) ls | false ↦ ls ]
+
+unfoldable pub lowest : (n : ℕ) → List Row → List ℕ
+lowest n [] = countUp 1 n
+lowest n (r ∷ rs) = joinedBy r (lowest n rs)
+
+-- the atoms of the group whose lowest atom is i; none where i is not the lowest of its group
+unfoldable pub groupOf : (i : ℕ) → List ℕ → List Atom → List Atom
+groupOf i [] rest = []
+groupOf i (l ∷ ls) [] = []
+groupOf i (l ∷ ls) (a ∷ rest) = elim (eqb i l) [ true ↦ a ∷ groupOf i ls rest | false ↦ groupOf i ls rest ]
+
+abbrev pub groupsBy : List ℕ → List Atom → List (List Atom)
+groupsBy ls l = map (λ i. groupOf i ls l) (countUp 1 (length l))
+
+unfoldable pub groups : Structure → List (List Atom)
+groups s = groupsBy (lowest (length (s .atoms)) (s .bonds)) (s .atoms)
 
 -- A well-formed structure: every count, range, order and clash rule, by whatever way the structure came.
 unfoldable pub atomOk : (k : ℕ) → Atom → Bool

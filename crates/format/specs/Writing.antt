@@ -13,7 +13,7 @@ use Rattle.format.specs.Bytes.{Bytes, bytes}
 use Rattle.format.specs.Labels.{ListOf, Bonds, Charges, Radicals, Centres, Pairs}
 use Rattle.format.specs.Rows.{Row, Sym, symOf}
 use Rattle.format.specs.Formula.{Counted, counted}
-use Rattle.format.specs.Structure.{symbols, Isotope, letters, Atom, Entry, Structure, rowsOf, lists, total, kinds, entriesOf}
+use Rattle.format.specs.Structure.{symbols, Isotope, letters, Atom, Entry, Structure, rowsOf, lists, total, kinds, entriesOf, groups}
 use Rattle.format.specs.Table.{sound, decode, spansOf, textAt}
 
 -- "no leading zeros"; in at most k digits
@@ -96,7 +96,7 @@ printCount n = elim (eqb n 1) [ true ↦ [] | false ↦ digits n ]
 unfoldable pub printEntry : Counted → Bytes
 printEntry e = printSym (e .symbol) ++ printCount (e .count)
 
--- "The formula is one fragment": a list of fragments is printed, parted by ` * `; a fragment is its first entry and the others, so it is not empty
+-- L1: "one fragment for each group of atoms .., parted by ` * `"; a fragment is its first entry and the others, so it is not empty
 pub record Fragment : Type 0 where
   pub head : Counted
   pub tail : List Counted
@@ -104,6 +104,10 @@ pub record Fragment : Type 0 where
 abbrev pub fragment : List Counted → List Fragment
 fragment [] = []
 fragment (e ∷ es) = record { head = e; tail = es } ∷ []
+
+-- "Each keeps the old order inside"
+unfoldable pub fragments : Structure → List Fragment
+fragments s = flat (λ g. fragment (formulaOf (entriesOf g))) (groups s)
 
 unfoldable pub printFragment : Counted → List Counted → (rest : Bytes) → Bytes
 printFragment e [] rest = printEntry e ++ rest
@@ -155,7 +159,7 @@ records s texts =
     ∷ printRecord "##ORIGIN=" (getD texts 1 [])
     ∷ printRecord "##OWNER=" (getD texts 2 [])
     ∷ printId (s .id)
-    ∷ printRecord "##MOLFORM=" (printFormula (fragment (formulaOf (entriesOf (s .atoms)))))
+    ∷ printRecord "##MOLFORM=" (printFormula (fragments s))
     ∷ printRecord "##ATOMLIST=" []
     ∷ printAtoms 1 (s .atoms)
     ∷ flat (λ l. printRows l (rowsOf l s)) lists

@@ -1,6 +1,6 @@
 -- Tests, order and maps told member by member, at an index: one that passes, none that passes, where a run ends, an earlier member before a later one, maps that
 -- agree on the members; and a test that is computed once for all numbers below a bound. Over any element. Assumes nothing.
-use Prim.Native.Nat.{ℕ, zero, suc, _≤_, _<_}
+use Prim.Native.Nat.{ℕ, zero, suc, _+_, _≤_, _<_}
 use mathlib.Core.Path.{_≡_, refl, ap, ap₂, _∙_}
 use mathlib.Core.Bool.{Bool, true, false, _&&_}
 use mathlib.Core.List.{List, [], _∷_, map}
@@ -8,7 +8,7 @@ use native.Mathlib.Omega.{arith}
 use lib.Dec.{eqb}
 use lib.ListN.{length, getD}
 use borrow.Author.Tests.{eqb-true, eqb-false}
-use Rattle.lists.specs.Lists.{all, any, span}
+use Rattle.lists.specs.Lists.{all, any, span, countUp}
 use Rattle.lists.specs.Order.{ascends, Strict}
 use Rattle.lists.proofs.Bools.{and-parts}
 use Rattle.lists.proofs.ListLaws.{all-nil, all-both, all-at, any-nil, any-hit, any-later, any-neither, span-nil, in-cons, out-cons}
@@ -73,3 +73,15 @@ at-below f (suc n) h k l = go (eqb k n) refl (and-parts (f n) (below f n) h .0) 
     go : (t : Bool) → eqb k n ≡ t → f n ≡ true → (k < n → f k ≡ true) → f k ≡ true
     go true e p ih = ap f (eqb-true k n e) ∙ p
     go false e p ih = ih (omega (arith, eqb-false k n e))
+
+-- NUMBERS IN TURN
+pub count-long : (a n : ℕ) → length (countUp a n) ≡ n
+unfolding countUp
+count-long a zero = refl
+count-long a (suc n) = ap suc (count-long (suc a) n)
+
+pub count-at : (a n i : ℕ) → i < n → getD (countUp a n) i 0 ≡ a + i
+unfolding countUp
+count-at a zero i h = absurd (omega arith)
+count-at a (suc n) zero h = omega arith
+count-at a (suc n) (suc i) h = count-at (suc a) n i (omega arith) ∙ omega arith

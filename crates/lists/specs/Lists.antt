@@ -5,6 +5,11 @@ use mathlib.Core.Bool.{Bool, true, false, _&&_, _||_}
 use mathlib.Core.List.{List, [], _∷_, _++_}
 use lib.ListN.{length, drop, replicate}
 
+-- a number where a test passes, else 0
+abbrev pub share : Bool → ℕ → ℕ
+share true n = n
+share false n = 0
+
 -- n numbers from one on: a, a + 1, a + 2 ..
 unfoldable pub countUp : (a n : ℕ) → List ℕ
 countUp a zero = []

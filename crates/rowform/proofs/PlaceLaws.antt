@@ -2,7 +2,7 @@
 use Prim.Native.Nat.{ℕ, zero, suc, _+_, _*_, _≤_, _<_}
 use mathlib.Core.Path.{_≡_, refl, sym, ap, ap₂, _∙_}
 use mathlib.Core.List.{List, [], _∷_, map}
-use native.Mathlib.Nat.{min-le-left, min-eq-left, min-eq-right, add-zero, not-suc-le-zero, le-of-suc-le-suc}
+use native.Mathlib.Nat.{min-le-left, add-zero, not-suc-le-zero, le-of-suc-le-suc}
 use native.Mathlib.Numerals.{add-one}
 use native.Mathlib.Omega.{arith}
 use lib.ListN.{length, getD, take, drop, length-take, length-drop}
@@ -17,14 +17,6 @@ use Rattle.format.proofs.PlaceLaws.{atom-place, row-place}
 use Rattle.rowform.specs.Lines.{rowNo}
 
 -- A COUNT
-pub count-low : (t : List ℤ) (p m n : ℕ) → n ≡ cell t p → n < m → (n ≡ countAt t p m) × (n ≤ m)
-unfolding countAt
-count-low t p m n e h = (e ∙ sym (min-eq-right (omega (arith, e))), omega arith)
-
-pub count-high : (t : List ℤ) (p m n : ℕ) → n ≡ cell t p → m ≤ n → (m ≡ countAt t p m) × (m ≤ m)
-unfolding countAt
-count-high t p m n e h = (sym (min-eq-left (omega (arith, e))), omega arith)
-
 count-le : (t : List ℤ) (p m : ℕ) → countAt t p m ≤ m
 unfolding countAt
 count-le t p m = min-le-left m (cell t p)

@@ -1,10 +1,8 @@
 // The written form of one row: document 01, "The one written form" ("One line feed a line, one space between fields"). An atom or a row that no list holds, and
 // a table that is too short, print nothing: the buffer stays, and the answer is the place that was given.
-ghost use mathlib.Core.Path.{_≡_};
 ghost use mathlib.Core.List.{[], _∷_, _++_};
 ghost use Prim.Native.Nat.{_≤_, _<_};
 ghost use lib.ListN.{length};
-ghost use Rattle.format.specs.Table.{countAt};
 ghost use Rattle.format.specs.Writing.{digits};
 ghost use Rattle.printing.specs.Printing.{Laid, Untouched};
 ghost use Rattle.rowform.specs.Lines.{listOf, atomLine, RowLaid};
@@ -30,17 +28,6 @@ pub enum Listed {
     Radical,
     Centre,
     Pair,
-}
-
-// A count of the table, cut to what its list holds.
-pub fn count_at(table: &[i32], at: usize, most: usize) -> usize
-    ensures { λ r. ⌜ (r ≡ countAt (now (table .entry)) at most) × (r ≤ most) ⌝ }
-{
-    let count = cell(table, at) as usize;
-    if count < most {
-        return count;
-    }
-    most
 }
 
 // A number and the space behind it. One of one digit or two is laid with its space.

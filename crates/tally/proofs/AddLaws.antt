@@ -10,13 +10,11 @@ use lib.Dec.{eqb, ltb}
 use borrow.Author.Tests.{eqb-true, ltb-true, lt-ltb, eq-eqb}
 use Rattle.lists.proofs.Bools.{torn, and-parts, and-both}
 use Rattle.lists.proofs.LexLaws.{Sides, less, equal, greater, sides}
-use Rattle.format.specs.Structure.{Entry}
-use Rattle.tally.specs.Ranks.{keyOf}
-use Rattle.tally.specs.Gathering.{Shows, KeysAscend, oneMore, AddShows}
+use Rattle.tally.specs.Gathering.{Tallied, Shows, KeysAscend, oneMore, AddShows}
 use Rattle.tally.proofs.ShowLaws.{shows-up, shows-raised, shows-put}
 
 -- keys that show entries ascend; what the first keys and counts are
-pub keys-up : (es : List Entry) (k c : List ℕ) (count : ℕ) → count ≤ length k → Shows es (take count k) (take count c) → KeysAscend count k
+pub keys-up : (es : List Tallied) (k c : List ℕ) (count : ℕ) → count ≤ length k → Shows es (take count k) (take count c) → KeysAscend count k
 keys-up es k c count h s i j a b =
     let l : length (take count k) ≡ count = length-take-le count k h in
     omega (arith, shows-up es (take count k) (take count c) s i j a (omega arith), getD-take count k i 0 (omega arith), getD-take count k j 0 b)
@@ -33,7 +31,7 @@ module _ (k c : List ℕ) (count place key more : ℕ) (lk : count ≤ length k)
   add-raised h es e a m w s =
       let p : place < count = stands k count place key b st h .0 in
       let q : getD k place 0 ≡ key = stands k count place key b st h .1 in
-      let u : getD (take count k) place 0 ≡ keyOf (e .kind) = getD-take count k place 0 p ∙ q ∙ sym a in
+      let u : getD (take count k) place 0 ≡ e .key = getD-take count k place 0 p ∙ q ∙ sym a in
       let v : take count (set c place (getD c place 0 + more)) ≡ set (take count c) place (getD (take count c) place 0 + e .count) =
       take-set-lt count c place (getD c place 0 + more) p ∙ ap₂ (λ (m n : ℕ). set (take count c) place (m + n)) (sym (getD-take count c place 0 p)) (sym m) in
       subst (λ (l : List ℕ). Shows (e ∷ es) (take count k) l) (sym v) (shows-raised es (take count k) (take count c) s e place (omega (arith, length-take-le count k lk)) u)
@@ -48,7 +46,7 @@ module _ (k c : List ℕ) (count place key more : ℕ) (lk : count ≤ length k)
   unfolding oneMore
   add-put o k′ c′ p x y es e a m w s =
       let l : length (take count k) ≡ count = length-take-le count k lk in
-      let x′ : take (count + 1) k′ ≡ oneMore (take count k) place (keyOf (e .kind)) = x ∙ ap (oneMore (take count k) place) (sym a) in
+      let x′ : take (count + 1) k′ ≡ oneMore (take count k) place (e .key) = x ∙ ap (oneMore (take count k) place) (sym a) in
       let y′ : take (count + 1) c′ ≡ oneMore (take count c) place (e .count) = y ∙ ap (oneMore (take count c) place) (sym m) in
       rw (x′, y′)
       (shows-put es (take count k) (take count c) s e place (omega arith) (λ i h. omega (arith, w .lower i h, getD-take count k i 0 (omega arith), a))

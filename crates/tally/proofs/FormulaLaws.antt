@@ -3,27 +3,26 @@
 use Prim.Native.Nat.{ℕ, _+_, _<_}
 use mathlib.Core.Path.{_≡_, refl, sym, ap, ap₂, _∙_}
 use mathlib.Core.Bool.{Bool, true, false, _||_}
-use mathlib.Core.List.{List, [], _∷_, map, map-map}
+use mathlib.Core.List.{List, [], _∷_, map}
 use native.Mathlib.Omega.{arith}
-use lib.ListN.{getD}
 use lib.Dec.{eqb, ltb}
 use borrow.Author.Tests.{eqb-true, ltb-true, lt-ltb, le-ltb, eq-eqb, ne-eqb}
 use Rattle.lists.specs.Lists.{all, any, pairs}
 use Rattle.lists.specs.Order.{insert, sort, ascends, level}
 use Rattle.lists.proofs.Bools.{torn, eqb-same}
-use Rattle.lists.proofs.ListLaws.{all-nil, all-parts, all-both, all-at, any-nil, any-cons, any-hit, any-miss, any-later, any-neither, any-parts}
+use Rattle.lists.proofs.ListLaws.{all-nil, all-parts, all-both, any-nil, any-cons, any-hit, any-miss, any-later, any-neither, any-parts}
 use Rattle.lists.proofs.PairLaws.{pairs-nil, pairs-parts, pairs-neither}
 use Rattle.lists.proofs.PartLaws.{any-map}
 use Rattle.lists.proofs.LexLaws.{Sides, less, equal, greater, sides, ltb-strict}
 use Rattle.lists.proofs.SortLaws.{insert-nil, insert-here, insert-past, sort-nil, sort-step, sort-any, sort-all, sort-ascends, ascends-parts, ascends-first}
-use Rattle.format.specs.Structure.{Isotope, isotopeOf, Entry, sameIsotope, total, kinds}
+use Rattle.format.specs.Structure.{Isotope, Entry, sameIsotope, total, kinds}
 use Rattle.format.specs.Writing.{formulaBefore}
 use Rattle.format.proofs.TotalLaws.{isotope-is, total-nil, total-hit, total-miss, kinds-nil, kinds-again, kinds-new, kinds-once}
 use Rattle.tally.specs.Ranks.{keyOf, fine}
-use Rattle.tally.specs.Gathering.{keyed, sumOf, Shows}
-use Rattle.lists.proofs.IndexLaws.{map-on}
+use Rattle.tally.specs.Gathering.{tallied, keyed, sumOf}
 use Rattle.tally.proofs.KeyLaws.{key-before, key-same}
 use Rattle.tally.proofs.ShowLaws.{sum-nil, sum-hit, sum-miss}
+use Rattle.tally.proofs.SumLaws.{plain}
 
 -- ASCENDING NUMBERS are told by which there are
 above : (x : ℕ) (ys : List ℕ) → all (ltb x) ys ≡ true → any (eqb x) ys ≡ false
@@ -141,40 +140,27 @@ keys-apart (i ∷ l) h d =
     pairs-neither (level ltb) (keyOf i) (map keyOf l) (level-keys i (q .0) l (q .1) (r .0)) (keys-apart l (q .1) (r .1))
 
 -- SUMS are totals
-pub sum-total : (i : Isotope) → fine i ≡ true → (es : List Entry) → all (λ (e : Entry). fine (e .kind)) es ≡ true → sumOf (keyOf i) es ≡ total i es
+pub sum-total : (i : Isotope) → fine i ≡ true → (es : List Entry) → all (λ (e : Entry). fine (e .kind)) es ≡ true → sumOf (keyOf i) (plain es) ≡ total i es
 sum-total i own [] h = sum-nil (keyOf i) ∙ sym (total-nil i)
 sum-total i own (e ∷ es) h =
     let q = all-parts (λ (f : Entry). fine (f .kind)) e es h in
     go (sameIsotope i (e .kind)) refl (sym (key-same i (e .kind) own (q .0))) (sum-total i own es (q .1))
   where
-    go : (t : Bool) → sameIsotope i (e .kind) ≡ t → eqb (keyOf i) (keyOf (e .kind)) ≡ sameIsotope i (e .kind) → sumOf (keyOf i) es ≡ total i es → sumOf (keyOf i) (e ∷ es) ≡ total i (e ∷ es)
-    go true w f ih = sum-hit (keyOf i) e es (f ∙ w) ∙ ap (λ (n : ℕ). e .count + n) ih ∙ sym (total-hit i e es w)
-    go false w f ih = sum-miss (keyOf i) e es (f ∙ w) ∙ ih ∙ sym (total-miss i e es w)
+    go : (t : Bool) → sameIsotope i (e .kind) ≡ t → eqb (keyOf i) (keyOf (e .kind)) ≡ sameIsotope i (e .kind) → sumOf (keyOf i) (plain es) ≡ total i es → sumOf (keyOf i) (plain (e ∷ es)) ≡ total i (e ∷ es)
+    go true w f ih = sum-hit (keyOf i) (tallied (keyOf (e .kind)) (e .count)) (plain es) (f ∙ w) ∙ ap (λ (n : ℕ). e .count + n) ih ∙ sym (total-hit i e es w)
+    go false w f ih = sum-miss (keyOf i) (tallied (keyOf (e .kind)) (e .count)) (plain es) (f ∙ w) ∙ ih ∙ sym (total-miss i e es w)
 
 -- THE FORMULA'S entries
-abbrev noIsotope : Isotope
-noIsotope = isotopeOf 0 0
-
 module _ (es : List Entry) (h : all (λ (e : Entry). fine (e .kind)) es ≡ true) where
   pub formula-fine : all fine (sort formulaBefore (kinds es)) ≡ true
   formula-fine = sort-all formulaBefore fine (kinds es) ∙ kinds-all fine es h
 
-  formula-ascends : ascends ltb (map keyOf (sort formulaBefore (kinds es))) ≡ true
+  pub formula-ascends : ascends ltb (map keyOf (sort formulaBefore (kinds es))) ≡ true
   formula-ascends =
       ap (ascends ltb) (sort-keys (kinds es) (kinds-all fine es h))
       ∙ sort-ascends ltb ltb-strict (map keyOf (kinds es)) (keys-apart (kinds es) (kinds-all fine es h) (kinds-once es))
 
-  formula-there : (k : ℕ) → any (eqb k) (map keyOf (sort formulaBefore (kinds es))) ≡ any (keyed k) es
+  pub formula-there : (k : ℕ) → any (eqb k) (map keyOf (sort formulaBefore (kinds es))) ≡ any (keyed k) (plain es)
   formula-there k =
       any-map (eqb k) keyOf (sort formulaBefore (kinds es)) ∙ sort-any formulaBefore (λ i. eqb k (keyOf i)) (kinds es) ∙ kinds-have (λ i. eqb k (keyOf i)) es
-
-  module _ (ks cs : List ℕ) (s : Shows es ks cs) where
-    pub shown-keys : ks ≡ map keyOf (sort formulaBefore (kinds es))
-    shown-keys = ascending-same ks (map keyOf (sort formulaBefore (kinds es))) (s .up) formula-ascends (λ k. s .there k ∙ sym (formula-there k))
-
-    pub shown-counts : cs ≡ map (λ i. total i es) (sort formulaBefore (kinds es))
-    shown-counts =
-        s .sums ∙ ap (map (λ k. sumOf k es)) shown-keys
-        ∙ map-map (λ k. sumOf k es) keyOf (sort formulaBefore (kinds es))
-        ∙ map-on (λ i. sumOf (keyOf i) es) (λ i. total i es) noIsotope (sort formulaBefore (kinds es))
-        (λ i b. sum-total (getD (sort formulaBefore (kinds es)) i noIsotope) (all-at fine noIsotope (sort formulaBefore (kinds es)) i formula-fine b) es h)
+      ∙ sym (any-map (keyed k) (λ e. tallied (keyOf (e .kind)) (e .count)) es)

@@ -12,7 +12,7 @@ use Rattle.format.specs.Bytes.{within}
 use Rattle.format.specs.Structure.{Isotope, isotopeOf, sameIsotope, Atom, atomOk}
 use Rattle.format.specs.Writing.{formulaBefore}
 use Rattle.tally.specs.Ranks.{rankOf, elementOf, keyOf, fine, keyOr}
-use Rattle.tally.proofs.RankLaws.{rank-back, rank-low, rank-before, rank-equal}
+use Rattle.tally.proofs.RankLaws.{rank-back, rank-low, rank-high, rank-before, rank-equal}
 
 -- NUMBERS WITH TWO DIGITS to the base 512
 module _ (b d : ℕ) (p : b < 512) (q : d < 512) (a c : ℕ) where
@@ -71,6 +71,10 @@ module _ (i : Isotope) (h : fine i ≡ true) where
   unfolding keyOf
   key-some = let f = fine-parts i h in omega (arith, rank-low (i .element) (f .low) (f .high))
 
+  pub key-high : keyOf i < 65536
+  unfolding keyOf
+  key-high = let f = fine-parts i h in omega (arith, f .mass, rank-high (i .element) (f .low) (f .high))
+
   pub key-rank : keyOf i / 512 ≡ rankOf (i .element)
   unfolding keyOf
   key-rank = omega (arith, fine-parts i h .mass)
@@ -89,6 +93,13 @@ module _ (i : Isotope) (h : fine i ≡ true) where
 pub key-out : (i : Isotope) → fine i ≡ false → keyOr i ≡ 0
 unfolding keyOr
 key-out i h = rw (h, keyOr)
+
+pub key-or-high : (i : Isotope) → keyOr i < 65536
+key-or-high i = go (fine i) refl
+  where
+    go : (t : Bool) → fine i ≡ t → keyOr i < 65536
+    go true h = omega (arith, key-or i h, key-high i h)
+    go false h = omega (arith, key-out i h)
 
 module _ (e m : ℕ) where
   pub key-no-element : within 1 103 e ≡ false → 0 ≡ keyOr (isotopeOf e m)

@@ -2,10 +2,11 @@
 pub mod RankLaws
 pub mod KeyLaws
 pub mod ShowLaws
+pub mod AtomLaws
+pub mod SumLaws
 pub mod FormulaLaws
 pub mod SearchLaws
 pub mod GapLaws
-pub mod AtomLaws
 pub mod AddLaws
+pub mod GroupLaws
 pub mod GatherLaws
-pub mod EntryLaws

@@ -17,9 +17,7 @@ use Rattle.lists.proofs.ListLaws.{any-nil, any-cons, any-parts}
 use Rattle.lists.proofs.PartLaws.{map-take, map-drop}
 use Rattle.lists.proofs.LexLaws.{Sides, less, equal, greater, sides, ltb-strict}
 use Rattle.lists.proofs.SortLaws.{any-perm, ascends-nil, insert-place, insert-perm, insert-ascends}
-use Rattle.format.specs.Structure.{Entry}
-use Rattle.tally.specs.Ranks.{keyOf}
-use Rattle.tally.specs.Gathering.{keyed, sumOf, Shows}
+use Rattle.tally.specs.Gathering.{Tallied, keyed, sumOf, Shows}
 use Rattle.lists.proofs.IndexLaws.{any-index, any-nowhere, span-index, ascends-at, map-length, map-at, map-on}
 
 -- SUMS, clause by clause
@@ -28,15 +26,15 @@ module _ (k : ℕ) where
   unfolding sumOf
   sum-nil = refl
 
-  pub sum-hit : (e : Entry) (es : List Entry) → keyed k e ≡ true → sumOf k (e ∷ es) ≡ e .count + sumOf k es
+  pub sum-hit : (e : Tallied) (es : List Tallied) → keyed k e ≡ true → sumOf k (e ∷ es) ≡ e .count + sumOf k es
   unfolding sumOf
   sum-hit e es h = rw (h, sumOf)
 
-  pub sum-miss : (e : Entry) (es : List Entry) → keyed k e ≡ false → sumOf k (e ∷ es) ≡ sumOf k es
+  pub sum-miss : (e : Tallied) (es : List Tallied) → keyed k e ≡ false → sumOf k (e ∷ es) ≡ sumOf k es
   unfolding sumOf
   sum-miss e es h = rw (h, sumOf)
 
-  pub sum-absent : (es : List Entry) → any (keyed k) es ≡ false → sumOf k es ≡ 0
+  pub sum-absent : (es : List Tallied) → any (keyed k) es ≡ false → sumOf k es ≡ 0
   sum-absent [] h = sum-nil
   sum-absent (e ∷ es) h = let p : (keyed k e ≡ false) × (any (keyed k) es ≡ false) = any-parts (keyed k) e es h in sum-miss e es (p .0) ∙ sum-absent es (p .1)
 
@@ -44,12 +42,12 @@ module _ (k : ℕ) where
 pub shows-none : Shows [] [] []
 shows-none = record { up = ascends-nil ltb; there = λ k. any-nil (eqb k) ∙ sym (any-nil (keyed k)); sums = refl }
 
-pub shows-same : (es fs : List Entry) (ks cs : List ℕ) → ((k : ℕ) → any (keyed k) es ≡ any (keyed k) fs) → ((k : ℕ) → sumOf k es ≡ sumOf k fs) → Shows es ks cs → Shows fs ks cs
+pub shows-same : (es fs : List Tallied) (ks cs : List ℕ) → ((k : ℕ) → any (keyed k) es ≡ any (keyed k) fs) → ((k : ℕ) → sumOf k es ≡ sumOf k fs) → Shows es ks cs → Shows fs ks cs
 shows-same es fs ks cs a b s =
     record { up = s .up; there = λ k. s .there k ∙ a k; sums = s .sums ∙ map-on (λ (k : ℕ). sumOf k es) (λ (k : ℕ). sumOf k fs) 0 ks (λ i h. b (getD ks i 0)) }
 
 -- WHAT STANDS AT AN INDEX
-module _ (es : List Entry) (ks cs : List ℕ) (s : Shows es ks cs) where
+module _ (es : List Tallied) (ks cs : List ℕ) (s : Shows es ks cs) where
   pub shows-long : length cs ≡ length ks
   shows-long = ap length (s .sums) ∙ map-length (λ (k : ℕ). sumOf k es) ks
 
@@ -60,16 +58,16 @@ module _ (es : List Entry) (ks cs : List ℕ) (s : Shows es ks cs) where
   shows-up i j a b = ltb-true (getD ks i 0) (getD ks j 0) (ascends-at ltb ltb-strict 0 ks i j (s .up) a b)
 
   -- ONE ENTRY MORE
-  module _ (e : Entry) (p : ℕ) where
-    sum-own : sumOf (keyOf (e .kind)) (e ∷ es) ≡ e .count + sumOf (keyOf (e .kind)) es
-    sum-own = sum-hit (keyOf (e .kind)) e es (eqb-same (keyOf (e .kind)))
+  module _ (e : Tallied) (p : ℕ) where
+    sum-own : sumOf (e .key) (e ∷ es) ≡ e .count + sumOf (e .key) es
+    sum-own = sum-hit (e .key) e es (eqb-same (e .key))
 
-    sum-other : (k : ℕ) → (k ≡ keyOf (e .kind) → ⊥) → sumOf k es ≡ sumOf k (e ∷ es)
-    sum-other k n = sym (sum-miss k e es (ne-eqb k (keyOf (e .kind)) n))
+    sum-other : (k : ℕ) → (k ≡ e .key → ⊥) → sumOf k es ≡ sumOf k (e ∷ es)
+    sum-other k n = sym (sum-miss k e es (ne-eqb k (e .key) n))
 
     -- its key is there
-    module _ (b : p < length ks) (q : getD ks p 0 ≡ keyOf (e .kind)) where
-      key-once : (i : ℕ) → i < length ks → (i ≡ p → ⊥) → getD ks i 0 ≡ keyOf (e .kind) → ⊥
+    module _ (b : p < length ks) (q : getD ks p 0 ≡ e .key) where
+      key-once : (i : ℕ) → i < length ks → (i ≡ p → ⊥) → getD ks i 0 ≡ e .key → ⊥
       key-once i c n w = go (sides i p)
         where
           go : Sides i p → ⊥
@@ -97,9 +95,9 @@ module _ (es : List Entry) (ks cs : List ℕ) (s : Shows es ks cs) where
           each i c (greater a) = other i c (λ z. omega arith)
 
       still : (k : ℕ) → any (eqb k) ks ≡ any (keyed k) (e ∷ es)
-      still k = go (eqb k (keyOf (e .kind))) refl ∙ sym (any-cons (keyed k) e es)
+      still k = go (eqb k (e .key)) refl ∙ sym (any-cons (keyed k) e es)
         where
-          go : (t : Bool) → eqb k (keyOf (e .kind)) ≡ t → any (eqb k) ks ≡ (eqb k (keyOf (e .kind)) || any (keyed k) es)
+          go : (t : Bool) → eqb k (e .key) ≡ t → any (eqb k) ks ≡ (eqb k (e .key) || any (keyed k) es)
           go true w = any-index (eqb k) 0 ks p b (ap (eqb k) q ∙ w) ∙ sym (ap (λ (t : Bool). t || any (keyed k) es) w)
           go false w = s .there k ∙ sym (ap (λ (t : Bool). t || any (keyed k) es) w)
 
@@ -107,8 +105,8 @@ module _ (es : List Entry) (ks cs : List ℕ) (s : Shows es ks cs) where
       shows-raised = record { up = s .up; there = still; sums = raised }
 
     -- its key is not there
-    module _ (b : p ≤ length ks) (lower : (i : ℕ) → i < p → getD ks i 0 < keyOf (e .kind)) (higher : (i : ℕ) → p ≤ i → i < length ks → keyOf (e .kind) < getD ks i 0) where
-      key-none : (i : ℕ) → i < length ks → keyOf (e .kind) ≡ getD ks i 0 → ⊥
+    module _ (b : p ≤ length ks) (lower : (i : ℕ) → i < p → getD ks i 0 < e .key) (higher : (i : ℕ) → p ≤ i → i < length ks → e .key < getD ks i 0) where
+      key-none : (i : ℕ) → i < length ks → e .key ≡ getD ks i 0 → ⊥
       key-none i c w = go (sides i p)
         where
           go : Sides i p → ⊥
@@ -116,44 +114,44 @@ module _ (es : List Entry) (ks cs : List ℕ) (s : Shows es ks cs) where
           go (equal a) = omega (arith, higher i (omega arith) c)
           go (greater a) = omega (arith, higher i (omega arith) c)
 
-      placed : take p ks ++ (keyOf (e .kind) ∷ drop p ks) ≡ insert ltb (keyOf (e .kind)) ks
+      placed : take p ks ++ (e .key ∷ drop p ks) ≡ insert ltb (e .key) ks
       placed =
-          let q : span (λ y. not (ltb (keyOf (e .kind)) y)) ks ≡ p =
-          span-index (λ y. not (ltb (keyOf (e .kind)) y)) 0 ks p b (λ i h. ap not (le-ltb (keyOf (e .kind)) (getD ks i 0) (omega (arith, lower i h))))
-          (λ h. ap not (lt-ltb (keyOf (e .kind)) (getD ks p 0) (higher p (omega arith) h))) in
-          ap (λ (j : ℕ). take j ks ++ (keyOf (e .kind) ∷ drop j ks)) (sym q) ∙ sym (insert-place ltb (keyOf (e .kind)) ks)
+          let q : span (λ y. not (ltb (e .key) y)) ks ≡ p =
+          span-index (λ y. not (ltb (e .key) y)) 0 ks p b (λ i h. ap not (le-ltb (e .key) (getD ks i 0) (omega (arith, lower i h))))
+          (λ h. ap not (lt-ltb (e .key) (getD ks p 0) (higher p (omega arith) h))) in
+          ap (λ (j : ℕ). take j ks ++ (e .key ∷ drop j ks)) (sym q) ∙ sym (insert-place ltb (e .key) ks)
 
-      apart : any (level ltb (keyOf (e .kind))) ks ≡ false
-      apart = any-nowhere (level ltb (keyOf (e .kind))) 0 ks (λ i h. go (getD ks i 0) (key-none i h) (sides (keyOf (e .kind)) (getD ks i 0)))
+      apart : any (level ltb (e .key)) ks ≡ false
+      apart = any-nowhere (level ltb (e .key)) 0 ks (λ i h. go (getD ks i 0) (key-none i h) (sides (e .key) (getD ks i 0)))
         where
-          go : (y : ℕ) → (keyOf (e .kind) ≡ y → ⊥) → Sides (keyOf (e .kind)) y → level ltb (keyOf (e .kind)) y ≡ false
-          go y n (less a) = rw (lt-ltb (keyOf (e .kind)) y a)
+          go : (y : ℕ) → (e .key ≡ y → ⊥) → Sides (e .key) y → level ltb (e .key) y ≡ false
+          go y n (less a) = rw (lt-ltb (e .key) y a)
           go y n (equal a) = absurd (n a)
-          go y n (greater a) = rw (le-ltb (keyOf (e .kind)) y (omega arith), lt-ltb y (keyOf (e .kind)) a)
+          go y n (greater a) = rw (le-ltb (e .key) y (omega arith), lt-ltb y (e .key) a)
 
-      absent : sumOf (keyOf (e .kind)) es ≡ 0
-      absent = sum-absent (keyOf (e .kind)) es (sym (s .there (keyOf (e .kind))) ∙ any-nowhere (eqb (keyOf (e .kind))) 0 ks (λ i h. ne-eqb (keyOf (e .kind)) (getD ks i 0) (key-none i h)))
+      absent : sumOf (e .key) es ≡ 0
+      absent = sum-absent (e .key) es (sym (s .there (e .key)) ∙ any-nowhere (eqb (e .key)) 0 ks (λ i h. ne-eqb (e .key) (getD ks i 0) (key-none i h)))
 
       others : cs ≡ map (λ k. sumOf k (e ∷ es)) ks
       others = s .sums ∙ map-on (λ (k : ℕ). sumOf k es) (λ (k : ℕ). sumOf k (e ∷ es)) 0 ks (λ i h. sum-other (getD ks i 0) (λ w. key-none i h (sym w)))
 
-      put : take p cs ++ (e .count ∷ drop p cs) ≡ map (λ k. sumOf k (e ∷ es)) (take p ks ++ (keyOf (e .kind) ∷ drop p ks))
+      put : take p cs ++ (e .count ∷ drop p cs) ≡ map (λ k. sumOf k (e ∷ es)) (take p ks ++ (e .key ∷ drop p ks))
       put =
-          let q : e .count ≡ sumOf (keyOf (e .kind)) (e ∷ es) = omega (arith, sum-own, absent) in
+          let q : e .count ≡ sumOf (e .key) (e ∷ es) = omega (arith, sum-own, absent) in
           ap (λ (l : List ℕ). take p l ++ (e .count ∷ drop p l)) others
           ∙ ap (λ (n : ℕ). take p (map (λ k. sumOf k (e ∷ es)) ks) ++ (n ∷ drop p (map (λ k. sumOf k (e ∷ es)) ks))) q
-          ∙ ap₂ (λ (x y : List ℕ). x ++ (sumOf (keyOf (e .kind)) (e ∷ es) ∷ y)) (sym (map-take (λ k. sumOf k (e ∷ es)) p ks)) (sym (map-drop (λ k. sumOf k (e ∷ es)) p ks))
-          ∙ sym (map-append (λ k. sumOf k (e ∷ es)) (take p ks) (keyOf (e .kind) ∷ drop p ks))
+          ∙ ap₂ (λ (x y : List ℕ). x ++ (sumOf (e .key) (e ∷ es) ∷ y)) (sym (map-take (λ k. sumOf k (e ∷ es)) p ks)) (sym (map-drop (λ k. sumOf k (e ∷ es)) p ks))
+          ∙ sym (map-append (λ k. sumOf k (e ∷ es)) (take p ks) (e .key ∷ drop p ks))
 
-      now-there : (k : ℕ) → any (eqb k) (insert ltb (keyOf (e .kind)) ks) ≡ any (keyed k) (e ∷ es)
+      now-there : (k : ℕ) → any (eqb k) (insert ltb (e .key) ks) ≡ any (keyed k) (e ∷ es)
       now-there k =
-          any-perm (eqb k) (insert-perm ltb (keyOf (e .kind)) ks) ∙ any-cons (eqb k) (keyOf (e .kind)) ks
-          ∙ ap (λ (t : Bool). eqb k (keyOf (e .kind)) || t) (s .there k) ∙ sym (any-cons (keyed k) e es)
+          any-perm (eqb k) (insert-perm ltb (e .key) ks) ∙ any-cons (eqb k) (e .key) ks
+          ∙ ap (λ (t : Bool). eqb k (e .key) || t) (s .there k) ∙ sym (any-cons (keyed k) e es)
 
-      pub shows-put : Shows (e ∷ es) (take p ks ++ (keyOf (e .kind) ∷ drop p ks)) (take p cs ++ (e .count ∷ drop p cs))
+      pub shows-put : Shows (e ∷ es) (take p ks ++ (e .key ∷ drop p ks)) (take p cs ++ (e .count ∷ drop p cs))
       shows-put =
           record {
-            up = ap (ascends ltb) placed ∙ insert-ascends ltb ltb-strict (keyOf (e .kind)) ks apart (s .up);
+            up = ap (ascends ltb) placed ∙ insert-ascends ltb ltb-strict (e .key) ks apart (s .up);
             there = λ k. ap (any (eqb k)) placed ∙ now-there k;
             sums = put;
           }

@@ -1,4 +1,4 @@
-// Entries by ascending key, in two lists of 257 numbers that are lent: the keys and the counts. Atoms of one kind mostly follow one another, so the place of the
+// Entries by ascending key, in two lists of 512 numbers that are lent: the keys and the counts. Atoms of one kind mostly follow one another, so the place of the
 // last one is looked at first.
 ghost use mathlib.Core.Path.{_≡_};
 ghost use mathlib.Core.Bool.{_&&_};
@@ -9,7 +9,7 @@ ghost use Rattle.tally.specs.Gathering.{KeysAscend, Between, oneMore, Ad
 
 // How many of the keys are lower.
 fn place_of(keys: &[u32], count: usize, key: u32) -> usize
-    requires { ⌜ (length (now keys) ≡ 257) × (count ≤ 257) ⌝ }
+    requires { ⌜ (length (now keys) ≡ 512) × (count ≤ 512) ⌝ }
     ensures { λ r. ⌜ (r ≤ count) × (KeysAscend count (now (keys .entry)) → Between (now (keys .entry)) count key r r) ⌝ }
 {
     if count == 0 {
@@ -33,7 +33,7 @@ fn place_of(keys: &[u32], count: usize, key: u32) -> usize
 
 // The same, where a place is known at which the key may stand.
 pub fn find(keys: &[u32], count: usize, likely: usize, key: u32) -> usize
-    requires { ⌜ (length (now keys) ≡ 257) × (count ≤ 257) ⌝ }
+    requires { ⌜ (length (now keys) ≡ 512) × (count ≤ 512) ⌝ }
     ensures { λ r. ⌜ (r ≤ count) × (KeysAscend count (now (keys .entry)) → Between (now (keys .entry)) count key r r) ⌝ }
 {
     if likely < count {
@@ -46,7 +46,7 @@ pub fn find(keys: &[u32], count: usize, likely: usize, key: u32) -> usize
 
 // Whether there is a key at the place, and it is this one.
 fn stands_at(keys: &[u32], count: usize, place: usize, key: u32) -> bool
-    requires { ⌜ (length (now keys) ≡ 257) × (count ≤ 257) ⌝ }
+    requires { ⌜ (length (now keys) ≡ 512) × (count ≤ 512) ⌝ }
     ensures { λ r. ⌜ r ≡ (ltb place count && eqb (getD (now (keys .entry)) place 0) key) ⌝ }
 {
     if place < count {
@@ -57,8 +57,8 @@ fn stands_at(keys: &[u32], count: usize, place: usize, key: u32) -> bool
 
 // A number goes to its place among the first `count`; those from there on move up by one, the last first.
 fn insert_at(numbers: &mut [u32], place: usize, count: usize, number: u32)
-    requires { ⌜ (length (now numbers) ≡ 257) × (place ≤ count) × (count ≤ 256) ⌝ }
-    ensures { λ _. ⌜ (length (now (numbers .exit)) ≡ 257) × (take (count + 1) (now (numbers .exit)) ≡ oneMore (take count (now (numbers .entry))) place number) ⌝ }
+    requires { ⌜ (length (now numbers) ≡ 512) × (place ≤ count) × (count ≤ 511) ⌝ }
+    ensures { λ _. ⌜ (length (now (numbers .exit)) ≡ 512) × (take (count + 1) (now (numbers .exit)) ≡ oneMore (take count (now (numbers .entry))) place number) ⌝ }
 {
     let mut j = count;
     while place < j {
@@ -77,8 +77,8 @@ pub fn add(
     key: u32,
     more: u32,
 ) -> usize
-    requires { ⌜ (length (now keys) ≡ 257) × (length (now counts) ≡ 257) × (place ≤ count) × (count ≤ 256) × (place < count → getD (now counts) place 0 + more ≤ 4294967295) ⌝ }
-    ensures { λ r. ⌜ (length (now (keys .exit)) ≡ 257) × (length (now (counts .exit)) ≡ 257) × (r ≤ count + 1) × AddShows count place key more (now (keys .entry)) (now (counts .entry)) r (now (keys .exit)) (now (counts .exit)) ⌝ }
+    requires { ⌜ (length (now keys) ≡ 512) × (length (now counts) ≡ 512) × (place ≤ count) × (count ≤ 511) × (place < count → getD (now counts) place 0 + more ≤ 4294967295) ⌝ }
+    ensures { λ r. ⌜ (length (now (keys .exit)) ≡ 512) × (length (now (counts .exit)) ≡ 512) × (r ≤ count + 1) × AddShows count place key more (now (keys .entry)) (now (counts .entry)) r (now (keys .exit)) (now (counts .exit)) ⌝ }
 {
     if stands_at(keys, count, place, key) {
         counts[place] = counts[place] + more;

@@ -10,11 +10,11 @@ use lib.ListN.{length, getD, set, drop, replicate, drop-of-length-le}
 use lib.Seq.{drop-cons, getD-set-same, getD-set-other, set-getD}
 use lib.Dec.{eqb}
 use borrow.Author.Tests.{eqb-true, eq-eqb, ne-eqb}
-use Rattle.lists.specs.Lists.{all}
+use Rattle.lists.specs.Lists.{share, all}
 use Rattle.lists.proofs.Bools.{torn, and-left-false, and-right-false}
 use Rattle.lists.proofs.ListLaws.{all-nil, all-parts, all-both, all-step, all-miss, all-end}
 use Rattle.format.specs.Structure.{Isotope, isotopeOf, Entry, entry, sameIsotope, total}
-use Rattle.format.proofs.TotalLaws.{share, isotope-is, isotope-same, isotope-refl, total-nil, total-cons}
+use Rattle.format.proofs.TotalLaws.{isotope-is, isotope-same, isotope-refl, total-nil, total-cons}
 use Rattle.totals.specs.Left.{byMass, cellOf, heavyOf, leftOf, isZero, Blank, Adds, Takes, Counts, Says}
 
 -- ONE ENTRY

@@ -12,10 +12,9 @@ use lib.IntN.{ℤ}
 use Rattle.format.specs.Bytes.{Bytes}
 use Rattle.format.specs.Table.{sound}
 use Rattle.format.specs.Writing.{formOf, writtenAs, writeResult}
-use Rattle.tally.specs.Gathering.{Gathers}
 use Rattle.printing.specs.Printing.{after, Laid}
 use Rattle.form.specs.Forms.{Printable, FormLaid}
-use Rattle.writer.specs.Answers.{shown, SoundWritten}
+use Rattle.writer.specs.Answers.{shown, SoundWritten, GroupsGathered}
 use Rattle.writer.specs.declared.Answer.{Answer}
 use Rattle.writer.specs.declared.Answer.the-variants.{Written, Refused}
 use Rattle.printing.proofs.PrintLaws.{over-whole, after-whole, after-over, laid-as}
@@ -38,7 +37,7 @@ module _ (form : Bytes) (r : ℕ) (is : r ≡ after 0 form) where
       go false e = is ∙ after-whole form (omega (arith, ltb-false 32768 (length form) e))
 
 -- A SOUND TABLE, its form printed into a draft
-module _ (t : List ℤ) (b buffer : Bytes) (n : ℕ) (keys counts : List ℕ) (g : Gathers t n keys counts) (draft drafted : Bytes) (size : ℕ) (m : FormLaid t b n keys counts draft drafted size) where
+module _ (t : List ℤ) (b buffer : Bytes) (n : ℕ) (keys counts : List ℕ) (g : GroupsGathered t n keys counts) (draft drafted : Bytes) (size : ℕ) (m : FormLaid t b n keys counts draft drafted size) where
   pub too-long : 32768 < size → SoundWritten t b buffer (Refused 23) buffer
   too-long h s =
       let q : 32768 < length (formOf t b) = long (formOf t b) size (m (sound-printable t b s n keys counts g) .place) h in

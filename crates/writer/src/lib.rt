@@ -4,9 +4,10 @@ ghost use mathlib.Core.Path.{_≡_};
 ghost use Prim.Native.Nat.{_≤_};
 ghost use lib.ListN.{length};
 ghost use Rattle.format.specs.Writing.{writeResult};
-ghost use Rattle.writer.specs.Answers.{shown, SoundWritten};
+ghost use Rattle.writer.specs.Answers.{shown, SoundWritten, GroupsGathered};
 use form::put_form;
 use format::Table;
+use groups::group_atoms;
 use printing::put_text;
 use soundness::is_sound;
 use tally::ENTRIES;
@@ -21,6 +22,16 @@ pub enum Answer {
     Refused(u32),
 }
 
+// The formula's entries, group by group, and how many there are.
+fn gather_groups(table: &[i32], keys: &mut [u32; ENTRIES], counts: &mut [u32; ENTRIES]) -> usize
+    ensures within { λ r. ⌜ r ≤ 512 ⌝ }
+    ensures holds { λ r. ⌜ GroupsGathered (now (table .entry)) r (now (keys .exit)) (now (counts .exit)) ⌝ }
+{
+    let mut labels = [0u8; Table::ATOMS];
+    group_atoms(table, &mut labels);
+    gather(table, &labels, keys, counts)
+}
+
 // A sound table: "23, the form would pass 32,768 bytes; 22, the buffer is shorter"; else it is written. The form is printed into a draft, which tells its length and,
 // for most blocks, holds all of it, so that it needs only be copied; a longer one is printed once more.
 fn write_sound(table: &[i32], bytes: &[u8], buffer: &mut [u8]) -> Answer
@@ -29,7 +40,7 @@ fn write_sound(table: &[i32], bytes: &[u8], buffer: &mut [u8]) -> Answer
 {
     let mut keys = [0u32; ENTRIES];
     let mut counts = [0u32; ENTRIES];
-    let entries = gather(table, &mut keys, &mut counts);
+    let entries = gather_groups(table, &mut keys, &mut counts);
     let mut draft = [0u8; DRAFT];
     let size = put_form(&mut draft, table, bytes, &keys, &counts, entries);
     if Table::BLOCK < size {

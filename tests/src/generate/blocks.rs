@@ -107,7 +107,7 @@ fn spell_record(spelling: &mut Spelling, content: &Structure, record: Record) {
         }
         Record::Molform => {
             spelling.label("MOLFORM");
-            let formula = spelling.formula(&content.atoms);
+            let formula = spelling.formula(content);
             spelling.value(&formula);
         }
         Record::Atomlist

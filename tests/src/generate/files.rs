@@ -1,8 +1,9 @@
 //! Transfer files of no to eight blocks, whole, damaged, open or nested, with stray runs between; and
-//! files of helical blocks alone.
+//! files of helical blocks or of blocks with several groups alone.
 
 use super::blocks::sound_block;
 use super::damage::damaged;
+use super::fragments::fragment_block;
 use super::helical::helical_block;
 use super::neon::NEON;
 use super::random::Random;
@@ -51,11 +52,21 @@ pub fn file(random: &mut Random) -> Vec<u8> {
     file
 }
 
-/// A transfer file of two to six blocks with STEREOMOLECULE, with stray runs between.
+/// A transfer file of blocks with STEREOMOLECULE.
 pub fn helical_file(random: &mut Random) -> Vec<u8> {
+    file_of(random, helical_block)
+}
+
+/// A transfer file of blocks with several groups.
+pub fn fragment_file(random: &mut Random) -> Vec<u8> {
+    file_of(random, fragment_block)
+}
+
+/// A transfer file of two to six blocks of a kind, with stray runs between.
+fn file_of(random: &mut Random, block: fn(&mut Random) -> Vec<u8>) -> Vec<u8> {
     let mut file = Vec::new();
     for _ in 0..2 + random.below(5) {
-        file.extend(helical_block(random));
+        file.extend(block(random));
         if random.chance(30) {
             file.extend(stray(random));
         }

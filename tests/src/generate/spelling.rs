@@ -1,11 +1,9 @@
 //! How sound blocks are spelt: labels in any case with ` -/_` in them, blanks, comments, leading
-//! zeros, texts over several lines, skipped records, formulas in every allowed shape.
+//! zeros, texts over several lines, skipped records. Formulas stand in `formulas`.
 
 use super::random::Random;
 use crate::independent::coordinates::Factor;
 use crate::independent::elements::SYMBOLS;
-use crate::independent::formula::listed;
-use crate::independent::table::Atom;
 
 /// A block in the making. Each block has its own line end and its own share of noise.
 pub struct Spelling<'a> {
@@ -57,7 +55,7 @@ impl<'a> Spelling<'a> {
         self.bytes
     }
 
-    fn noisy(&mut self) -> bool {
+    pub(super) fn noisy(&mut self) -> bool {
         self.random.chance(self.noise)
     }
 
@@ -234,51 +232,6 @@ impl<'a> Spelling<'a> {
                 self.bytes.extend(self.line_end.bytes());
             }
             self.bytes.extend(self.line_end.bytes());
-        }
-    }
-
-    /// A formula with the atoms' totals: entries split, in any order, in one or more fragments.
-    pub fn formula(&mut self, atoms: &[Atom]) -> String {
-        let mut entries = Vec::new();
-        for ((element, mass), total) in listed(atoms) {
-            let mut rest = total as i32;
-            while rest > 1 && self.noisy() {
-                let part = self.random.between(1, rest - 1);
-                entries.push(self.entry(element, mass, part));
-                rest -= part;
-            }
-            entries.push(self.entry(element, mass, rest));
-        }
-        self.random.shuffle(&mut entries);
-        let mut formula = entries.remove(0);
-        for entry in entries {
-            let parting = self.parting(&formula, &entry);
-            formula.push_str(parting);
-            formula.push_str(&entry);
-        }
-        formula
-    }
-
-    fn entry(&mut self, element: i32, mass: i32, count: i32) -> String {
-        let symbol = self.symbol(element, mass);
-        let slash = if self.random.chance(15) { "/" } else { "" };
-        if count == 1 && !self.noisy() {
-            return symbol;
-        }
-        format!("{symbol}{slash}{}", self.number(count))
-    }
-
-    /// What may stand between a formula so far and its next entry.
-    fn parting(&mut self, formula: &str, entry: &str) -> &'static str {
-        let before: Vec<u8> = formula.bytes().rev().take(1).collect();
-        let needs_blank = before[0].is_ascii_uppercase() || entry.starts_with('^');
-        match self.random.below(12) {
-            0 => "*",
-            1 => " * ",
-            2 => "\t",
-            3 => "  ",
-            4..=6 if !needs_blank => "",
-            _ => " ",
         }
     }
 }

@@ -1,22 +1,33 @@
 //! Random structures within the limits, mostly of few atoms: what sound blocks and tables hold. About a
-//! seventh of them is helical, and has no centres and no pairs then.
+//! seventh of them is helical, and has no centres and no pairs then; about a tenth is made of small
+//! molecules.
 
+use super::molecules::small_groups;
 use super::random::Random;
 use crate::independent::table::{Atom, Bond, Centre, Pair, Spread, Structure};
 
 /// A random structure without texts.
 pub fn structure(random: &mut Random) -> Structure {
+    let bare = if random.chance(10) { small_groups(random) } else { any_bonds(random) };
+    furnished(random, bare)
+}
+
+/// Up to 24 atoms, and bonds between any of them.
+fn any_bonds(random: &mut Random) -> Structure {
     let count = match random.below(10) {
         0..=5 => random.between(1, 4),
         6..=8 => random.between(4, 9),
         _ => random.between(10, 24),
     };
+    let atoms = (0..count).map(|_| atom(random)).collect();
+    let bonds = if random.chance(65) { bonds(random, count) } else { Vec::new() };
+    Structure { atoms, bonds, ..Structure::default() }
+}
+
+/// Atoms and bonds with the other lists put to them.
+pub(super) fn furnished(random: &mut Random, mut made: Structure) -> Structure {
+    let count = made.atoms.len() as i32;
     let all: Vec<i32> = (1..=count).collect();
-    let atoms = all.iter().map(|_| atom(random)).collect();
-    let mut made = Structure { atoms, ..Structure::default() };
-    if random.chance(65) {
-        made.bonds = bonds(random, count);
-    }
     if random.chance(35) {
         let values: Vec<i32> = (-99..=99).filter(|&value| value != 0).collect();
         made.charges = spreads(random, &all, &values);
@@ -44,7 +55,7 @@ pub fn made_helical(made: Structure) -> Structure {
     Structure { helical: true, centres: Vec::new(), pairs: Vec::new(), ..made }
 }
 
-fn atom(random: &mut Random) -> Atom {
+pub(super) fn atom(random: &mut Random) -> Atom {
     let element = match random.below(10) {
         0..=2 => 6,
         3 | 4 => 1,

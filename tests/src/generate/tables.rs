@@ -2,6 +2,7 @@
 //! buffers too short.
 
 use super::blocks::sound_block;
+use super::fragments::fragment_table_case;
 use super::random::Random;
 use super::structures::structure;
 use crate::independent::table::{laid_out, Structure, HELICAL_AT, LONGEST_BLOCK, NUMBERS};
@@ -15,8 +16,11 @@ pub struct TableCase {
     pub room: usize,
 }
 
-/// A case of any kind; each answer 0, 1, 21, 22 and 23 comes often.
+/// A case of any kind; each answer 0, 1, 21, 22 and 23 comes often. One of ten is made for its groups.
 pub fn table_case(random: &mut Random) -> TableCase {
+    if random.chance(10) {
+        return fragment_table_case(random);
+    }
     let (mut table, mut texts) = sound_table(random);
     match random.below(100) {
         0..=34 => {}
@@ -139,7 +143,7 @@ pub(super) fn lengthen(random: &mut Random, table: &mut [i32], texts: &mut Vec<u
 }
 
 /// One disturbance of the table or its texts.
-fn disturb(random: &mut Random, table: &mut [i32], texts: &mut Vec<u8>) {
+pub(super) fn disturb(random: &mut Random, table: &mut [i32], texts: &mut Vec<u8>) {
     match random.below(9) {
         0 | 1 => disturb_used(random, table),
         2 => disturb_head(random, table),

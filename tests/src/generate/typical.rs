@@ -1,5 +1,5 @@
-//! Blocks as programs write them: what the benchmark reads. Typical ones of 6 to 24 atoms, ones that are
-//! handed as a whole, ones with coordinates, the largest, and the orders and rows that cost most.
+//! Blocks as programs write them: what the benchmark reads. Typical ones of 6 to 24 atoms, ones of several
+//! groups, ones that are handed as a whole, ones with coordinates, the largest, and the orders and rows that cost most.
 
 use super::crowded::{each_atom, two_ends, Crowded};
 use super::random::Random;
@@ -7,24 +7,36 @@ use super::structures::made_helical;
 use crate::independent::table::{laid_out, Atom, Bond, Centre, Spread, Structure, LONGEST_BLOCK};
 use crate::independent::write;
 
+/// The kinds of bonds in molecules of one group, by how often they come.
+const JOINING: [&i32; 6] = [&1, &1, &1, &1, &2, &3];
+
+/// The same with `A`, which parts a molecule into groups.
+const PARTING: [&i32; 6] = [&1, &1, &1, &1, &2, &5];
+
 /// A block of 6 to 24 atoms in the written form: a chain with branches and rings, mostly of carbon.
 pub fn typical_block(random: &mut Random) -> Vec<u8> {
-    let content = typical_structure(random);
+    let content = typical_structure(random, &JOINING);
+    written(random, content)
+}
+
+/// Such a block, of several groups mostly.
+pub fn typical_fragment_block(random: &mut Random) -> Vec<u8> {
+    let content = typical_structure(random, &PARTING);
     written(random, content)
 }
 
 /// Such a block with the YES of STEREOMOLECULE, and so without a centre.
 pub fn typical_helical_block(random: &mut Random) -> Vec<u8> {
-    let content = typical_structure(random);
+    let content = typical_structure(random, &JOINING);
     written(random, made_helical(content))
 }
 
-fn typical_structure(random: &mut Random) -> Structure {
+fn typical_structure(random: &mut Random, kinds: &[&i32]) -> Structure {
     let count = random.between(6, 24);
     let mut content =
         Structure { block_id: random.between(0, 1) * random.between(1, 999_999), ..Structure::default() };
     content.atoms = (0..count).map(|_| atom(random)).collect();
-    content.bonds = bonds(random, count);
+    content.bonds = bonds(random, count, kinds);
     if random.chance(20) {
         content.charges =
             vec![Spread { value: *random.pick(&[&-1, &1, &2]), atoms: vec![random.between(1, count)] }];
@@ -43,7 +55,7 @@ fn atom(random: &mut Random) -> Atom {
 }
 
 /// Each atom bound to one of the three before it, and some rings, ascending.
-fn bonds(random: &mut Random, count: i32) -> Vec<Bond> {
+fn bonds(random: &mut Random, count: i32, kinds: &[&i32]) -> Vec<Bond> {
     let mut ends: Vec<(i32, i32)> =
         (2..=count).map(|atom| (random.between(1.max(atom - 3), atom - 1), atom)).collect();
     for _ in 0..random.below(3) {
@@ -51,8 +63,7 @@ fn bonds(random: &mut Random, count: i32) -> Vec<Bond> {
     }
     ends.sort();
     ends.dedup();
-    let kinds: [&i32; 6] = [&1, &1, &1, &1, &2, &5];
-    ends.into_iter().map(|(lower, higher)| Bond { lower, higher, kind: *random.pick(&kinds) }).collect()
+    ends.into_iter().map(|(lower, higher)| Bond { lower, higher, kind: *random.pick(kinds) }).collect()
 }
 
 /// The written form with three short texts.
@@ -73,7 +84,7 @@ pub fn typical_coordinate_block(random: &mut Random) -> Vec<u8> {
     let count = random.between(20, 30);
     let mut content = Structure::default();
     content.atoms = (0..count).map(|_| atom(random)).collect();
-    content.bonds = bonds(random, count);
+    content.bonds = bonds(random, count, &JOINING);
     let mut block = written(random, content);
     block.truncate(block.len() - "##END=\n".len());
     let values: Vec<[i32; 3]> =

@@ -1,11 +1,12 @@
-//! The independent reader: document 01 and requests L2 and L4 read line by line, every broken rule of a
-//! line collected, the least of them answered. Nothing here is shared with the definitions or the proved
+//! The independent reader: document 01 and requests L1, L2 and L4 read line by line, every broken rule of
+//! a line collected, the least of them answered. Nothing here is shared with the definitions or the proved
 //! code.
 
 pub mod cases;
 pub mod coordinates;
 pub mod elements;
 pub mod formula;
+pub mod groups;
 pub mod lines;
 pub mod lists;
 pub mod reading;

@@ -1,8 +1,9 @@
-//! Writing a table: document 01, "Refusal numbers" (writing) and "The one written form"; request L4
-//! (number 13). Soundness is tested item by item, in the order of open-points I.
+//! Writing a table: document 01, "Refusal numbers" (writing) and "The one written form"; requests L1 (the
+//! formula's fragments) and L4 (number 13). Soundness is tested item by item, in the order of open-points I.
 
 use super::elements::{written, written_order};
 use super::formula::listed;
+use super::groups::groups;
 use super::lines::{is_allowed, is_blank};
 use super::table::*;
 
@@ -154,7 +155,7 @@ fn text_is_sound(table: &[i32], which: usize, texts: &[u8]) -> bool {
 }
 
 /// The structure that a sound table holds.
-fn taken_out(table: &[i32]) -> Structure {
+pub fn taken_out(table: &[i32]) -> Structure {
     let atom = |row: &[i32]| Atom { element: row[0], mass: row[1], hydrogens: row[2] };
     let bond = |row: &[i32]| Bond { lower: row[0], higher: row[1], kind: row[2] };
     let centre = |row: &[i32]| Centre { atom: row[0], descriptor: row[1], group: row[2] };
@@ -184,8 +185,8 @@ fn spreads(table: &[i32], list: usize, column: usize) -> Vec<Spread> {
     rows.map(|(value, row)| Spread { value: value[0], atoms: members(row) }).collect()
 }
 
-/// The one written form.
-fn form(structure: &Structure, texts: &[u8]) -> Vec<u8> {
+/// The one written form, of any length.
+pub fn form(structure: &Structure, texts: &[u8]) -> Vec<u8> {
     let text = |which: usize| {
         let (start, length) = structure.texts[which];
         &texts[start..start + length]
@@ -198,7 +199,7 @@ fn form(structure: &Structure, texts: &[u8]) -> Vec<u8> {
     if structure.block_id != 0 {
         write_value(&mut form, "BLOCK_ID", structure.block_id.to_string().as_bytes());
     }
-    write_value(&mut form, "MOLFORM", formula(&structure.atoms).as_bytes());
+    write_value(&mut form, "MOLFORM", formula(structure).as_bytes());
     write_lists(&mut form, structure);
     if structure.helical {
         // "written as a record after STEREOPAIR with the value on the label line"
@@ -265,8 +266,18 @@ fn group(byte: i32) -> String {
     format!(" {}", char::from(byte as u8))
 }
 
-/// "One fragment: C, H, then by symbol ...; no mass before ascending masses; counts of 1 left out."
-fn formula(atoms: &[Atom]) -> String {
+/// L1: "one fragment for each group of atoms ..., in order of their lowest atom, parted by ` * `".
+pub fn formula(structure: &Structure) -> String {
+    let fragment_of = |group: &Vec<usize>| {
+        let atoms: Vec<Atom> = group.iter().map(|&atom| structure.atoms[atom - 1]).collect();
+        fragment(&atoms)
+    };
+    groups(structure).iter().map(fragment_of).collect::<Vec<String>>().join(" * ")
+}
+
+/// "C, H, then by symbol ...; no mass before ascending masses; counts of 1 left out." An atom's implied
+/// hydrogens are in its fragment.
+pub fn fragment(atoms: &[Atom]) -> String {
     let mut totals: Vec<((i32, i32), i64)> = listed(atoms).into_iter().collect();
     totals.sort_by_key(|&((element, mass), _)| (written_order(element), mass));
     let entry = |&((element, mass), count): &((i32, i32), i64)| match count {

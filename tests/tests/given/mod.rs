@@ -1,5 +1,6 @@
-//! What the tests of coordinates and of STEREOMOLECULE share: blocks of three atoms with such records,
-//! read into tables that were full of something else, and what is written of a table.
+//! What the tests of coordinates, of STEREOMOLECULE and of fragments share: blocks of three atoms with
+//! such records, blocks of any atoms and bonds, read into tables that were full of something else, and
+//! what is written of a table.
 #![allow(dead_code)] // each test takes what it needs
 
 use galebonnet_tests::generate::limits_coordinates::{three_atoms, three_records};
@@ -92,4 +93,38 @@ pub fn first_coordinate(factor: &str, value: &str) -> f64 {
 /// Floats by their bits: -0.0 is another one than 0.0.
 pub fn bits(floats: &[f64]) -> Vec<u64> {
     floats.iter().map(|float| float.to_bits()).collect()
+}
+
+/// A block of atoms and bonds as their rows have them, `O 2, Na` and `1 2 S, 1 3 A`, with a formula.
+pub fn bonded_as(formula: &str, atoms: &str, bonds: &str) -> Vec<u8> {
+    let rows: String =
+        atoms.split(", ").zip(1..).map(|(atom, number)| format!("{number} {atom}\n")).collect();
+    let bonds = if bonds.is_empty() { String::new() } else { format!("##BONDLIST=\n{bonds}\n") };
+    let head = "##TITLE= t\n##JCAMP-CS= 3.7\n##ORIGIN=\n##OWNER=\n";
+    format!("{head}##MOLFORM= {formula}\n##ATOMLIST=\n{rows}{}##END=\n", bonds.replace(", ", "\n"))
+        .into_bytes()
+}
+
+/// Such a block with the formula that names each atom by itself.
+pub fn bonded(atoms: &str, bonds: &str) -> Vec<u8> {
+    let entry = |atom: &str| match atom.split_once(' ') {
+        Some((symbol, hydrogens)) => format!("{symbol} H{hydrogens}"),
+        None => atom.to_string(),
+    };
+    bonded_as(&atoms.split(", ").map(entry).collect::<Vec<String>>().join(" "), atoms, bonds)
+}
+
+/// The formula in a written form.
+pub fn formula_in(form: &str) -> &str {
+    form.lines().find_map(|line| line.strip_prefix("##MOLFORM= ")).expect("a formula")
+}
+
+/// The formula that is written of an accepted block.
+pub fn written_formula(block: &[u8]) -> String {
+    formula_in(&written(&table(block), block).expect("a form")).to_string()
+}
+
+/// The formula that is written of atoms and bonds.
+pub fn formula(atoms: &str, bonds: &str) -> String {
+    written_formula(&bonded(atoms, bonds))
 }

@@ -6,8 +6,8 @@ use borrow.Author.Needs.{needs}
 use Rattle.writer.proofs.write_sound.Statement.{statement}
 use Rattle.writer.proofs.write_sound.Tie as tie
 
-gather-requires : tie.Need-gather-requires
-gather-requires c κs = search needs
+gather-groups-requires : tie.Need-gather-groups-requires
+gather-groups-requires c κs = search needs
 
 slice-aggregate-put-form : tie.Need-slice-aggregate-put-form
 slice-aggregate-put-form c = search needs
@@ -16,10 +16,10 @@ put-form-requires : tie.Need-put-form-requires
 put-form-requires c κs = search needs
 
 returns : tie.Need-returns
-returns c = too-long (c .before .before .before .before .before .before .before .before .before .before .before .args .table .now) (c .before .before .before .before .before .before .before .before .before .before .before .args .bytes .now) (c .before .before .before .before .before .before .before .before .before .before .before .args .buffer .now) _ _ _ (c .before .before .before .before .before .before .gather .ensures .1) _ _ _ (c .before .before .put-form .ensures .0 (c .before .before .before .before .before .before .before .before .before .before .before .pre, c .before .before .before .before .before .before .gather .ensures .0)) (c .if1 .taken)
+returns c = too-long (c .before .before .before .before .before .before .before .before .before .before .before .args .table .now) (c .before .before .before .before .before .before .before .before .before .before .before .args .bytes .now) (c .before .before .before .before .before .before .before .before .before .before .before .args .buffer .now) _ _ _ (c .before .before .before .before .before .before .gather-groups .ensures .1) _ _ _ (c .before .before .put-form .ensures .0 (c .before .before .before .before .before .before .before .before .before .before .before .pre, c .before .before .before .before .before .before .gather-groups .ensures .0)) (c .if1 .taken)
 
 returns-2 : tie.Need-returns-2
-returns-2 c = too-short (c .before .before .before .before .before .before .before .before .before .before .before .before .args .table .now) (c .before .before .before .before .before .before .before .before .before .before .before .before .args .bytes .now) (c .before .before .before .before .before .before .before .before .before .before .before .before .args .buffer .now) _ _ _ (c .before .before .before .before .before .before .before .gather .ensures .1) _ _ _ (c .before .before .before .put-form .ensures .0 (c .before .before .before .before .before .before .before .before .before .before .before .before .pre, c .before .before .before .before .before .before .before .gather .ensures .0)) (c .before .if1 .left) (c .if2 .taken)
+returns-2 c = too-short (c .before .before .before .before .before .before .before .before .before .before .before .before .args .table .now) (c .before .before .before .before .before .before .before .before .before .before .before .before .args .bytes .now) (c .before .before .before .before .before .before .before .before .before .before .before .before .args .buffer .now) _ _ _ (c .before .before .before .before .before .before .before .gather-groups .ensures .1) _ _ _ (c .before .before .before .put-form .ensures .0 (c .before .before .before .before .before .before .before .before .before .before .before .before .pre, c .before .before .before .before .before .before .before .gather-groups .ensures .0)) (c .before .if1 .left) (c .if2 .taken)
 
 sub-put-text : tie.Need-sub-put-text
 sub-put-text c = search needs
@@ -37,7 +37,7 @@ same-length : tie.Need-same-length
 same-length c = search needs
 
 returns-3 : tie.Need-returns-3
-returns-3 c = copied (c .before .before .before .before .before .before .before .before .before .before .before .before .before .before .before .before .before .before .before .args .table .now) (c .before .before .before .before .before .before .before .before .before .before .before .before .before .before .before .before .before .before .before .args .bytes .now) (c .before .before .before .before .before .before .before .before .before .before .before .before .before .before .before .before .before .before .before .args .buffer .now) _ _ _ (c .before .before .before .before .before .before .before .before .before .before .before .before .before .before .gather .ensures .1) _ _ _ (c .before .before .before .before .before .before .before .before .before .before .put-form .ensures .0 (c .before .before .before .before .before .before .before .before .before .before .before .before .before .before .before .before .before .before .before .pre, c .before .before .before .before .before .before .before .before .before .before .before .before .before .before .gather .ensures .0)) (c .before .before .before .before .before .before .before .before .if1 .left) _ _ (c .before .before .before .before .before .before .before .if2 .left) (c .before .before .before .before .before .before .if3 .taken) (c .before .before .before .before .before .before .before .before .before .before .put-form .result - 0) (omega arith) (c .before .before .put-text .ensures)
+returns-3 c = copied (c .before .before .before .before .before .before .before .before .before .before .before .before .before .before .before .before .before .before .before .args .table .now) (c .before .before .before .before .before .before .before .before .before .before .before .before .before .before .before .before .before .before .before .args .bytes .now) (c .before .before .before .before .before .before .before .before .before .before .before .before .before .before .before .before .before .before .before .args .buffer .now) _ _ _ (c .before .before .before .before .before .before .before .before .before .before .before .before .before .before .gather-groups .ensures .1) _ _ _ (c .before .before .before .before .before .before .before .before .before .before .put-form .ensures .0 (c .before .before .before .before .before .before .before .before .before .before .before .before .before .before .before .before .before .before .before .pre, c .before .before .before .before .before .before .before .before .before .before .before .before .before .before .gather-groups .ensures .0)) (c .before .before .before .before .before .before .before .before .if1 .left) _ _ (c .before .before .before .before .before .before .before .if2 .left) (c .before .before .before .before .before .before .if3 .taken) (c .before .before .before .before .before .before .before .before .before .before .put-form .result - 0) (omega arith) (c .before .before .put-text .ensures)
 
 put-form-requires-2 : tie.Need-put-form-requires-2
 put-form-requires-2 c κs = search needs
@@ -46,13 +46,13 @@ same-length-2 : tie.Need-same-length-2
 same-length-2 c = search needs
 
 returns-4 : tie.Need-returns-4
-returns-4 c = wrote (c .before .before .before .before .before .before .before .before .before .before .before .before .before .before .before .before .before .before .before .args .table .now) (c .before .before .before .before .before .before .before .before .before .before .before .before .before .before .before .before .before .before .before .args .bytes .now) (c .before .before .before .before .before .before .before .before .before .before .before .before .before .before .before .before .before .before .before .args .buffer .now) _ _ _ (c .before .before .before .before .before .before .before .before .before .before .before .before .before .before .gather .ensures .1) _ _ _ (c .before .before .before .before .before .before .before .before .before .before .put-form .ensures .0 (c .before .before .before .before .before .before .before .before .before .before .before .before .before .before .before .before .before .before .before .pre, c .before .before .before .before .before .before .before .before .before .before .before .before .before .before .gather .ensures .0)) (c .before .before .before .before .before .before .before .before .if1 .left) _ _ (c .before .before .before .before .before .before .before .if2 .left) (c .before .before .put-form2 .ensures .0 (c .before .before .before .before .before .before .before .before .before .before .before .before .before .before .before .before .before .before .before .pre, c .before .before .before .before .before .before .before .before .before .before .before .before .before .before .gather .ensures .0))
+returns-4 c = wrote (c .before .before .before .before .before .before .before .before .before .before .before .before .before .before .before .before .before .before .before .args .table .now) (c .before .before .before .before .before .before .before .before .before .before .before .before .before .before .before .before .before .before .before .args .bytes .now) (c .before .before .before .before .before .before .before .before .before .before .before .before .before .before .before .before .before .before .before .args .buffer .now) _ _ _ (c .before .before .before .before .before .before .before .before .before .before .before .before .before .before .gather-groups .ensures .1) _ _ _ (c .before .before .before .before .before .before .before .before .before .before .put-form .ensures .0 (c .before .before .before .before .before .before .before .before .before .before .before .before .before .before .before .before .before .before .before .pre, c .before .before .before .before .before .before .before .before .before .before .before .before .before .before .gather-groups .ensures .0)) (c .before .before .before .before .before .before .before .before .if1 .left) _ _ (c .before .before .before .before .before .before .before .if2 .left) (c .before .before .put-form2 .ensures .0 (c .before .before .before .before .before .before .before .before .before .before .before .before .before .before .before .before .before .before .before .pre, c .before .before .before .before .before .before .before .before .before .before .before .before .before .before .gather-groups .ensures .0))
 
 pub write-sound-spec : {M : Type 1} → statement M
 write-sound-spec =
     tie.close
     (tie.spec
-    gather-requires
+    gather-groups-requires
     slice-aggregate-put-form
     put-form-requires
     returns

@@ -1,13 +1,15 @@
 //! The definitions held against the independent reader.
 //!
 //! `hold COUNT SEED`, from the project's root, generates COUNT blocks, three blocks with coordinates, two blocks with
-//! STEREOMOLECULE and three tables to ten blocks and one transfer file to ten, and states the independent reader's
-//! answer to each as a theorem by computation over the definitions of `crates/format/specs`: for a block the number,
-//! the place, every number of the lent table and every float of the lent positions; for a table the number, the count
-//! and every byte of the buffer; for a file its pieces, some single steps, a name and a check. `hold coordinates COUNT
-//! SEED` states COUNT blocks with coordinates alone, `hold helical COUNT SEED` COUNT blocks with STEREOMOLECULE and
-//! three tables with number 13 set to ten of them, `hold limits` the named cases at and one over every limit. The
-//! theorems stand in a repository of their own under target/held, and the prover checks them there.
+//! STEREOMOLECULE, two tables of several groups and three other tables to ten blocks and one transfer file to ten, and
+//! states the independent reader's answer to each as a theorem by computation over the definitions of
+//! `crates/format/specs`: for a block the number, the place, every number of the lent table and every float of the lent
+//! positions; for a table the number, the count and every byte of the buffer; for a file its pieces, some single steps,
+//! a name and a check. `hold coordinates COUNT SEED` states COUNT blocks with coordinates alone, `hold helical COUNT
+//! SEED` COUNT blocks with STEREOMOLECULE and three tables with number 13 set to ten of them, `hold fragments COUNT
+//! SEED` COUNT tables of several groups and one such block to ten of them, `hold limits` the named cases at and one
+//! over every limit. The theorems stand in a repository of their own under target/held, and the prover checks them
+//! there.
 
 mod terms;
 mod theorems;
@@ -20,7 +22,10 @@ use std::str::FromStr;
 use std::time::Instant;
 use std::{env, fs};
 
-use theorems::{block_cases, coordinate_cases, file_cases, helical_cases, limit_cases, table_cases, Theorem};
+use theorems::{
+    block_cases, coordinate_cases, file_cases, fragment_cases, helical_cases, limit_cases, table_cases,
+    Theorem,
+};
 
 /// How many theorems stand in one file.
 const A_FILE: usize = 25;
@@ -32,6 +37,7 @@ fn main() {
         ["limits"] => limit_cases(),
         ["coordinates", count, seed] => coordinate_cases(asked(count), asked(seed)),
         ["helical", count, seed] => helical_cases(asked(count), asked(seed)),
+        ["fragments", count, seed] => fragment_cases(asked(count), asked(seed)),
         [count, seed] => generated(asked(count), asked(seed)),
         _ => usage(),
     };
@@ -56,7 +62,7 @@ fn main() {
 
 fn usage() -> ! {
     eprintln!(
-        "usage, from the project's root: hold COUNT SEED | hold coordinates COUNT SEED | hold helical COUNT SEED | hold limits"
+        "usage, from the project's root: hold COUNT SEED | hold coordinates COUNT SEED | hold helical COUNT SEED | hold fragments COUNT SEED | hold limits"
     );
     exit(2)
 }
@@ -70,13 +76,14 @@ fn generated(count: usize, seed: u64) -> Vec<Theorem> {
     let mut theorems = block_cases(count, seed);
     theorems.extend(coordinate_cases(count * 3 / 10, seed));
     theorems.extend(helical_cases(count * 2 / 10, seed));
+    theorems.extend(fragment_cases(count * 2 / 10, seed));
     theorems.extend(table_cases(count * 3 / 10, seed));
     theorems.extend(file_cases(count / 10, seed));
     theorems
 }
 
 /// How often each refusal number is among the answers, and among those that the records of coordinates and
-/// STEREOMOLECULE gave.
+/// STEREOMOLECULE gave; and what the groups of the sound tables are.
 fn report(theorems: &[Theorem], named: &str, seconds: u64) {
     let mut subjects: Vec<&str> = theorems.iter().map(|theorem| theorem.of).collect();
     subjects.dedup();
@@ -89,6 +96,8 @@ fn report(theorems: &[Theorem], named: &str, seconds: u64) {
     println!("refused by the records of coordinates:{}", counted(by_coordinates));
     let by_helical = theorems.iter().filter_map(|theorem| theorem.by_helical);
     println!("refused by STEREOMOLECULE:{}", counted(by_helical));
+    let by_fragments = theorems.iter().flat_map(|theorem| theorem.by_fragments.iter().copied());
+    println!("sound tables by their fragments:{}", counted(by_fragments));
     println!("hold {named}: {} theorems checked in {seconds} s", theorems.len());
 }
 

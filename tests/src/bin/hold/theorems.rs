@@ -1,6 +1,7 @@
 //! The independent reader's answers, stated as theorems over the definitions.
 
 use galebonnet_tests::generate::coordinates::refused_by_coordinates;
+use galebonnet_tests::generate::fragments::told_by_fragments;
 use galebonnet_tests::generate::helical::{refused_by_helical, refused_by_number_13};
 use galebonnet_tests::generate::{self, Random, TableCase};
 use galebonnet_tests::independent::{self, Walked};
@@ -8,12 +9,14 @@ use galebonnet_tests::independent::{self, Walked};
 use crate::terms::{bytes, positions, table};
 
 /// A theorem: what it is of, the refusal numbers in it, the one of them that the records of
-/// coordinates gave, the one that STEREOMOLECULE gave, its statement and its proof.
+/// coordinates gave, the one that STEREOMOLECULE gave, what a table's groups decide in its form, its
+/// statement and its proof.
 pub struct Theorem {
     pub of: &'static str,
     pub numbers: Vec<u32>,
     pub by_coordinates: Option<u32>,
     pub by_helical: Option<&'static str>,
+    pub by_fragments: Vec<&'static str>,
     statement: String,
     open: &'static str,
     proof: &'static str,
@@ -25,6 +28,7 @@ fn computed(of: &'static str, numbers: Vec<u32>, statement: String) -> Theorem {
         numbers,
         by_coordinates: None,
         by_helical: None,
+        by_fragments: Vec::new(),
         statement,
         open: "computing",
         proof: "refl",
@@ -124,6 +128,19 @@ pub fn helical_cases(count: usize, seed: u64) -> Vec<Theorem> {
     cases
 }
 
+/// Generated tables of several groups, and one block of several groups to ten of them.
+pub fn fragment_cases(count: usize, seed: u64) -> Vec<Theorem> {
+    let mut random = Random::new(seed ^ 0x6672_6167_6d65);
+    let mut cases = Vec::new();
+    for _ in 0..count {
+        cases.push(table_case("tables of several groups", &generate::fragment_table_case(&mut random)));
+    }
+    for _ in 0..count / 10 {
+        cases.push(block_case("blocks of several groups", &generate::fragment_block(&mut random), LONG));
+    }
+    cases
+}
+
 /// One of 20 cases for each way in which a table is short or longer.
 fn lengths(index: usize) -> (usize, usize) {
     match index % 20 {
@@ -136,9 +153,12 @@ fn lengths(index: usize) -> (usize, usize) {
     }
 }
 
-/// The named blocks, at and one over every limit.
+/// The named blocks, at and one over every limit, and the named tables.
 pub fn limit_cases() -> Vec<Theorem> {
-    generate::limit_blocks().iter().map(|(_, block)| block_case("blocks", block, LONG)).collect()
+    let blocks = generate::limit_blocks();
+    let tables = generate::fragment_limits();
+    let of_blocks = blocks.iter().map(|(_, block)| block_case("blocks", block, LONG));
+    of_blocks.chain(tables.iter().map(|(_, case)| table_case("tables", case))).collect()
 }
 
 /// Generated tables with their texts and buffers.
@@ -161,7 +181,8 @@ fn table_case(of: &'static str, case: &TableCase) -> Theorem {
         bytes(&buffer)
     );
     let by_helical = refused_by_number_13(&case.table, &case.texts);
-    Theorem { by_helical, ..computed(of, vec![written.number], statement) }
+    let by_fragments = told_by_fragments(&case.table, &case.texts);
+    Theorem { by_helical, by_fragments, ..computed(of, vec![written.number], statement) }
 }
 
 fn walked(answer: &Walked) -> String {
@@ -211,12 +232,8 @@ fn too_long(place: usize) -> Theorem {
     assert_eq!(answer, Walked::Refused(31));
     let statement = format!("walkAt (repeated {length} 35) {place} ≡ {}", walked(&answer));
     Theorem {
-        of: "files",
-        numbers: vec![31],
-        by_coordinates: None,
-        by_helical: None,
-        statement,
         open: "walkAt",
         proof: "rw (repeated-length 16777217 35)",
+        ..computed("files", vec![31], statement)
     }
 }

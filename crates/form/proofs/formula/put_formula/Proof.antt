@@ -1,6 +1,6 @@
 -- `form::formula::put_formula` meets its contract. Assumes nothing.
 use Rattle.format.specs.Bytes.{bytes}
-use Rattle.form.proofs.EntryLaws.{formula-laid}
+use Rattle.form.proofs.FragmentLaws.{formula-laid}
 use borrow.Author.Needs.{needs}
 use Rattle.form.proofs.formula.put_formula.Statement.{statement}
 use Rattle.form.proofs.formula.put_formula.Tie as tie
@@ -22,7 +22,7 @@ same-length c = search needs
 
 returns : tie.Need-returns
 unfolding bytes
-returns c = formula-laid _ (c .before .before .before .before .before .before .before .before .before .before .before .before .before .before .args .keys .now) (c .before .before .before .before .before .before .before .before .before .before .before .before .before .before .args .counts .now) (c .before .before .before .before .before .before .before .before .before .before .put-text .ensures) (c .before .before .before .before .before .before .put-entries .ensures) (c .before .before .put .ensures)
+returns c = formula-laid _ (c .before .before .before .before .before .before .before .before .before .before .before .before .before .before .before .before .args .keys .now) (c .before .before .before .before .before .before .before .before .before .before .before .before .before .before .before .before .args .counts .now) (c .before .before .before .before .before .before .before .before .before .before .before .before .put-text .ensures) (c .before .before .before .before .before .before .put-entries .ensures) (c .before .before .put .ensures)
 
 pub put-formula-spec : {M : Type 1} → statement M
 put-formula-spec =

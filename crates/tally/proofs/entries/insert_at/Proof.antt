@@ -8,7 +8,7 @@ use Rattle.tally.proofs.entries.insert_at.Statement.{statement}
 use Rattle.tally.proofs.entries.insert_at.Tie as tie
 
 abbrev Inv-loop : tie.InvT-loop
-Inv-loop numbers₀ place count number j₀ numbers j = (place ≤ j) × (j ≤ count) × (length numbers ≡ 257) × Moved numbers₀ numbers count j
+Inv-loop numbers₀ place count number j₀ numbers j = (place ≤ j) × (j ≤ count) × (length numbers ≡ 512) × Moved numbers₀ numbers count j
 
 abbrev μ-loop : tie.MeasureT-loop
 μ-loop numbers₀ place count number j₀ numbers j = j

@@ -5,7 +5,8 @@ use std::ops::Range;
 use galebonnet_tests::generate::coordinates::has_coordinates;
 use galebonnet_tests::generate::helical::has_helical;
 use galebonnet_tests::generate::typical::{
-    full_block, largest_block, typical_block, typical_coordinate_block, typical_helical_block, worst_blocks,
+    full_block, largest_block, typical_block, typical_coordinate_block, typical_fragment_block,
+    typical_helical_block, worst_blocks,
 };
 use galebonnet_tests::generate::{sound_block, Random};
 
@@ -40,6 +41,12 @@ pub fn typical(size: usize) -> File {
     filled("typical blocks", size, || typical_block(&mut random))
 }
 
+/// Typical blocks with bonds that do not join, so that most have several groups.
+fn of_several_groups() -> File {
+    let mut random = Random::new(9);
+    filled("blocks of several groups", SIZE, || typical_fragment_block(&mut random))
+}
+
 /// Blocks of 20 to 30 atoms with the coordinates of each, as programs write them.
 fn with_coordinates() -> File {
     let mut random = Random::new(7);
@@ -71,6 +78,6 @@ pub fn files() -> Vec<File> {
     let mut blocks = vec![("largest blocks", largest_block()), ("every list full", full_block())];
     blocks.extend(worst_blocks());
     let one_block = |(name, block): (&'static str, Vec<u8>)| filled(name, SIZE, || block.clone());
-    let several = [typical(SIZE), helical(), with_coordinates(), odd()];
+    let several = [typical(SIZE), of_several_groups(), helical(), with_coordinates(), odd()];
     several.into_iter().chain(blocks.into_iter().map(one_block)).collect()
 }

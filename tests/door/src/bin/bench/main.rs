@@ -23,8 +23,8 @@ fn main() {
     );
     let files = files::files();
     everything(&files, &proved, &tuned);
-    writing(&files[..5], &proved);
-    clearing(&files[..5], &proved);
+    writing(&files[..6], &proved);
+    clearing(&files[..6], &proved);
     growth(&proved, &tuned);
     if let Some(other) = Proved::new(&folder.join("other")) {
         beside(&files, &other, &proved, &tuned);

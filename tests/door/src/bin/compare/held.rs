@@ -17,6 +17,7 @@ pub struct Held {
     readings: BTreeMap<u32, u64>,
     by_coordinates: BTreeMap<u32, u64>,
     by_helical: BTreeMap<&'static str, u64>,
+    by_fragments: BTreeMap<&'static str, u64>,
     writings: BTreeMap<u32, u64>,
 }
 
@@ -33,6 +34,13 @@ impl Held {
     pub fn helical(&mut self, refusal: Option<&'static str>) {
         if let Some(refusal) = refusal {
             *self.by_helical.entry(refusal).or_default() += 1;
+        }
+    }
+
+    /// Counts what a sound table's groups decide in its form.
+    pub fn fragments(&mut self, told: Vec<&'static str>) {
+        for one in told {
+            *self.by_fragments.entry(one).or_default() += 1;
         }
     }
 
@@ -86,6 +94,7 @@ impl Held {
         println!("refused by the records of coordinates: {}", shown(&self.by_coordinates));
         println!("refused by STEREOMOLECULE: {}", shown(&self.by_helical));
         println!("answers to tables: {}", shown(&self.writings));
+        println!("sound tables by their fragments: {}", shown(&self.by_fragments));
         println!("compare: {} passed, {} failed", self.compared - self.differ, self.differ);
         i32::from(self.differ > 0)
     }

@@ -2,9 +2,11 @@
 //!
 //! `compare CASES SEED TABLES`, from the project's root, runs the named blocks and then CASES generated cases, ten blocks to one transfer file, and compares: number and
 //! place of check and read, every number of the table, every bit of the positions, the name; the walk from many places of a file; and what stands around everything lent.
-//! Then it writes the samples' tables and TABLES generated ones, sound, disturbed and extreme: number, count, whole buffer; and what was written is read again.
+//! Then it writes the samples' tables, the named tables and TABLES generated ones, sound, disturbed and extreme: number, count, whole buffer; and what was written is read again.
 //! `compare coordinates CASES SEED` runs CASES generated blocks with coordinates and nothing else; `compare helical CASES SEED` CASES generated blocks with STEREOMOLECULE,
-//! for each four a table with number 13 set and for each ten a transfer file of such blocks. It prints what differs, how often each refusal occurred, and a closing line.
+//! for each four a table with number 13 set and for each ten a transfer file of such blocks; `compare fragments CASES SEED` the named tables and CASES generated ones of several groups,
+//! for each four a block of several groups, written too where it is accepted, and for each 40 a transfer file of such blocks. It prints what differs, how often each refusal
+//! occurred, how many sound tables have several groups, and a closing line.
 
 mod blocks;
 mod files;
@@ -16,7 +18,8 @@ use std::env;
 use std::process::exit;
 
 use blocks::LONG;
-use galebonnet_tests::generate::{self, Random};
+use galebonnet_tests::generate::{self, Random, TableCase};
+use galebonnet_tests::independent;
 use held::Held;
 
 fn main() {
@@ -31,6 +34,10 @@ fn main() {
             generated_helical(&mut held, asked(cases), asked(seed));
             asked(seed)
         }
+        ["fragments", cases, seed] => {
+            generated_fragments(&mut held, asked(cases), asked(seed));
+            asked(seed)
+        }
         [cases, seed, tables] => {
             everything(&mut held, asked(cases), asked(seed), asked(tables));
             asked(seed)
@@ -42,7 +49,7 @@ fn main() {
 
 fn usage() -> ! {
     eprintln!(
-        "usage, from the project's root: compare CASES SEED TABLES | compare coordinates CASES SEED | compare helical CASES SEED"
+        "usage, from the project's root: compare CASES SEED TABLES | compare coordinates CASES SEED | compare helical CASES SEED | compare fragments CASES SEED"
     );
     exit(2)
 }
@@ -59,6 +66,7 @@ fn everything(held: &mut Held, cases: u64, seed: u64, tables: u64) {
     files::limits(held);
     generated(held, cases, seed);
     samples::compared(held);
+    named_tables(held);
     generated_tables(held, tables, seed);
 }
 
@@ -95,6 +103,32 @@ fn generated_helical(held: &mut Held, cases: u64, seed: u64) {
         }
         if case % 10 == 9 {
             let file = generate::helical_file(&mut random);
+            files::compared(held, &mut random, &file);
+        }
+    }
+}
+
+fn named_tables(held: &mut Held) {
+    for (_, case) in generate::fragment_limits() {
+        tables::compared(held, &case);
+    }
+}
+
+fn generated_fragments(held: &mut Held, cases: u64, seed: u64) {
+    named_tables(held);
+    let mut random = Random::new(seed);
+    for case in 0..cases {
+        tables::compared(held, &generate::fragment_table_case(&mut random));
+        if case % 4 == 3 {
+            let block = generate::fragment_block(&mut random);
+            blocks::compared(held, "generated with several groups", &block, lent(case / 4));
+            let mut table = vec![0; LONG.0];
+            if independent::read_table(&block, &mut table).number == 0 {
+                tables::compared(held, &TableCase { table, texts: block, room: 32_768 });
+            }
+        }
+        if case % 40 == 39 {
+            let file = generate::fragment_file(&mut random);
             files::compared(held, &mut random, &file);
         }
     }

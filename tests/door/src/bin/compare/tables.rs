@@ -1,6 +1,7 @@
 //! One table: written, and what was written read again.
 
 use galebonnet::door;
+use galebonnet_tests::generate::fragments::told_by_fragments;
 use galebonnet_tests::generate::helical::refused_by_number_13;
 use galebonnet_tests::generate::TableCase;
 use galebonnet_tests::independent;
@@ -25,6 +26,7 @@ pub fn compared(held: &mut Held, case: &TableCase) {
     let written = independent::write(&case.table, &case.texts, wanted.part_mut());
     held.written(written.number);
     held.helical(refused_by_number_13(&case.table, &case.texts));
+    held.fragments(told_by_fragments(&case.table, &case.texts));
     let input = &case.texts;
     held.same("write", input, (number, count), (written.number, written.count));
     held.same_list("write, buffer and around it", input, &buffer.all, &wanted.all);

@@ -1,8 +1,8 @@
--- `rowform::count_at` meets its contract. Assumes nothing.
-use Rattle.rowform.proofs.PlaceLaws.{count-low, count-high}
+-- `cells::count_at` meets its contract. Assumes nothing.
+use Rattle.cells.proofs.CountLaws.{count-low, count-high}
 use borrow.Author.Needs.{needs}
-use Rattle.rowform.proofs.count_at.Statement.{statement}
-use Rattle.rowform.proofs.count_at.Tie as tie
+use Rattle.cells.proofs.count_at.Statement.{statement}
+use Rattle.cells.proofs.count_at.Tie as tie
 
 cell-requires : tie.Need-cell-requires
 cell-requires c κs = search needs

@@ -1,0 +1,56 @@
+-- `groups::marks::mark_bonds` meets its contract. Assumes nothing.
+use Prim.Native.Nat.{_≤_}
+use mathlib.Core.Path.{_≡_, ap, _∙_}
+use native.Mathlib.Omega.{arith}
+use borrow.Author.Needs.{needs}
+use lib.ListN.{length}
+use Rattle.groups.specs.Marks.{marked}
+use Rattle.groups.proofs.BondLaws.{bondsFrom, place-within}
+use Rattle.groups.proofs.MarkLaws.{marked-long, marks-none, marks-more, marks-all}
+use Rattle.groups.proofs.marks.mark_bonds.Statement.{statement}
+use Rattle.groups.proofs.marks.mark_bonds.Tie as tie
+
+abbrev Inv-loop : tie.InvT-loop
+Inv-loop table bonds marks₀ i₀ marks i = (i ≤ bonds) × (marks ≡ marked (bondsFrom table bonds i) marks₀)
+
+abbrev μ-loop : tie.MeasureT-loop
+μ-loop table bonds marks₀ i₀ marks i = i
+
+loop-holds : tie.Need-loop-holds Inv-loop μ-loop
+loop-holds c = (omega arith, marks-none (c .before .args .table .now) _ _)
+
+sub-i : tie.Need-sub-i Inv-loop μ-loop
+sub-i c = search needs
+
+bond-requires : tie.Need-bond-requires Inv-loop μ-loop
+bond-requires c κs = search needs
+
+mark-bond-requires : tie.Need-mark-bond-requires Inv-loop μ-loop
+mark-bond-requires c κs = let l = c .before .before .before in let st = l .before .before in place-within (st .args .table .now) (st .args .bonds) (st .args .marks .now) _ _ (c .before .before .loop-test .taken) (l .loop .inv .0) (st .pre) (c .before .bond .ensures)
+
+loop-less : tie.Need-loop-less Inv-loop μ-loop
+loop-less c = search needs
+
+loop-again : tie.Need-loop-again Inv-loop μ-loop
+loop-again c = let l = c .before .before .before .before .before .before in let st = l .before .before in (omega arith, marks-more (st .args .table .now) (st .args .bonds) (st .args .marks .now) _ _ (l .loop .marks) _ (c .before .before .before .before .before .loop-test .taken) (l .loop .inv .0) (st .pre) (c .before .before .before .before .bond .ensures) (l .loop .inv .1) (c .before .before .mark-bond .ensures))
+
+same-length : tie.Need-same-length Inv-loop μ-loop
+same-length c = let st = c .before .before .before in ap length (c .before .loop .inv .1) ∙ marked-long (bondsFrom (st .args .table .now) (st .args .bonds) (c .before .loop .i)) (st .args .marks .now)
+
+returns : tie.Need-returns Inv-loop μ-loop
+returns c = let st = c .before .before .before in marks-all (st .args .table .now) (st .args .bonds) (st .args .marks .now) _ (c .before .loop .marks) (c .loop-test .left) (c .before .loop .inv .1)
+
+pub mark-bonds-spec : {M : Type 1} → statement M
+mark-bonds-spec =
+    tie.close
+    (tie.spec
+    Inv-loop
+    μ-loop
+    loop-holds
+    sub-i
+    bond-requires
+    mark-bond-requires
+    loop-less
+    loop-again
+    same-length
+    returns)
