@@ -15,7 +15,7 @@ use Rattle.lists.proofs.Bools.{torn, and-parts, and-both, or-left, or-other}
 use Rattle.lists.proofs.ListLaws.{all-nil, all-parts, all-both, any-nil, any-same, any-hit, any-miss, any-later}
 use Rattle.lists.proofs.PartLaws.{flat-nil, flat-cons}
 use Rattle.lists.proofs.PairLaws.{bytes-equal, bytes-same}
-use Rattle.lists.proofs.IndexLaws.{count-at}
+use Rattle.lists.proofs.IndexLaws.{all-index, count-at}
 use Rattle.format.specs.Bytes.{within, same}
 use Rattle.format.specs.Labels.{Bonds}
 use Rattle.format.specs.Rows.{Row}
@@ -262,12 +262,8 @@ module _ (i : Isotope) where
       ∙ ap (λ (m : ℕ). m + total i (flat f (map (λ k. groupOf k ls l) js))) (e (groupOf j ls l)) ∙ ap (λ (m : ℕ). weight (groupOf j ls l) + m) (flat-weighs f e ls l js)
 
 -- each lowest atom is an atom
-all-indexed : (p : ℕ → Bool) (xs : List ℕ) → ((i : ℕ) → i < length xs → p (getD xs i 0) ≡ true) → all p xs ≡ true
-all-indexed p [] f = all-nil p
-all-indexed p (x ∷ xs) f = all-both p x xs (f 0 (omega arith)) (all-indexed p xs (λ i h. f (suc i) (omega (arith, h))))
-
 pub lowest-within : (n : ℕ) (rs : List Row) → Linked n rs → all (within 1 n) (lowest n rs) ≡ true
-lowest-within n rs k = all-indexed (within 1 n) (lowest n rs) at
+lowest-within n rs k = all-index (within 1 n) 0 (lowest n rs) at
   where
     at : (i : ℕ) → i < length (lowest n rs) → within 1 n (getD (lowest n rs) i 0) ≡ true
     at i h =

@@ -13,7 +13,7 @@ use borrow.Author.Tests.{eqb-true, eqb-false, ltb-true, lt-ltb, le-ltb}
 use Rattle.lists.specs.Lists.{all, rowsFrom}
 use Rattle.lists.proofs.Bools.{torn, not-of-false, always, and-parts, and-both, and-left-false, and-right-false}
 use Rattle.lists.proofs.ListLaws.{all-nil, all-at, all-parts, all-replicate, all-step, all-miss, all-end}
-use Rattle.lists.proofs.IndexLaws.{map-length, map-at}
+use Rattle.lists.proofs.IndexLaws.{noughts-at, map-length, map-at}
 use Rattle.format.specs.Bytes.{within}
 use Rattle.format.specs.Labels.{Bonds}
 use Rattle.format.specs.Rows.{Row}
@@ -88,13 +88,8 @@ clear-more ms i h before j b = go (eqb j i) refl
     go true g = ap (λ (m : ℕ). getD (set ms i 0) m 0) (eqb-true j i g) ∙ getD-set-same ms i 0 0 h
     go false g = getD-set-other ms i j 0 0 (eqb-false j i g) ∙ before j (omega (arith, b, eqb-false j i g))
 
-zeros-at : (n j : ℕ) → _≡_ {A = ℕ} (getD {A = ℕ} (replicate n 0) j 0) 0
-zeros-at zero j = refl
-zeros-at (suc n) zero = refl
-zeros-at (suc n) (suc j) = zeros-at n j
-
 pub clear-all : (ms : List ℕ) (i n : ℕ) → length ms ≤ i → length ms ≡ n → ((j : ℕ) → j < i → getD ms j 0 ≡ 0) → ms ≡ replicate n 0
-clear-all ms i n h e each = ext-getD 0 ms (replicate n 0) (e ∙ sym (length-replicate n 0)) (λ j b. each j (omega arith) ∙ sym (zeros-at n j))
+clear-all ms i n h e each = ext-getD 0 ms (replicate n 0) (e ∙ sym (length-replicate n 0)) (λ j b. each j (omega arith) ∙ sym (noughts-at n j))
 
 -- ALL BUT THE FIRST MARKED, from the i-th on
 module _ (ms : List ℕ) (i : ℕ) where
@@ -148,7 +143,7 @@ module _ (n : ℕ) (ls : List ℕ) (r : Row) (ms : List ℕ) (ok : rowOk Bonds n
       go false e = ih (omega (arith, h, ap (λ (q : List ℕ). getD q j 0) (sym (unmarked r ms e))))
 
 marked-lower : (n : ℕ) (ls : List ℕ) {rs : List Row} → AllFine n rs → Levels ls rs → (j : ℕ) → 0 < getD (marked rs (replicate n 0)) j 0 → Lower ls j
-marked-lower n ls fine none j h = absurd (omega (arith, h, ap (λ (l : List ℕ). getD l j 0) (marked-nil (replicate n 0)) ∙ zeros-at n j))
+marked-lower n ls fine none j h = absurd (omega (arith, h, ap (λ (l : List ℕ). getD l j 0) (marked-nil (replicate n 0)) ∙ noughts-at n j))
 marked-lower n ls fine (more r rs l m) j h =
     let ok = all-parts (rowOk Bonds n) r rs fine in
     by-lower n ls r (marked rs (replicate n 0)) (ok .0) l j (omega (arith, h, ap (λ (q : List ℕ). getD q j 0) (marked-cons r rs (replicate n 0)))) (marked-lower n ls (ok .1) m j)
@@ -185,7 +180,7 @@ module _ (n : ℕ) (rs : List Row) (ms : List ℕ) (e : ms ≡ marked rs (replic
       let c : i < n = omega (arith, b, map-length suc (replicate n 0), size) in
       let first : getD (lowest n rs) 0 0 ≡ 1 = omega (arith, k .lows .low 1 (omega arith) (omega (arith, c)), k .lows .high 1 (omega arith) (omega (arith, c))) in
       let same = one-lowest (lowest n rs) (λ j h f. marked-lower n (lowest n rs) fine (k .level) j (each-marked j h (omega (arith, f, k .lows .long)))) (suc i) i (omega arith) (omega (arith, c, k .lows .long)) in
-      map-at suc 0 0 (replicate n 0) i (omega (arith, c, size)) ∙ ap suc (zeros-at n i) ∙ sym (same ∙ first))
+      map-at suc 0 0 (replicate n 0) i (omega (arith, c, size)) ∙ ap suc (noughts-at n i) ∙ sym (same ∙ first))
 
   named-one : all (λ l. ltb l n) (replicate n 0) ≡ true
   named-one = go n refl

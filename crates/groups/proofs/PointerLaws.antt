@@ -10,8 +10,7 @@ use lib.Seq.{ext-getD, getD-set-same, getD-set-other}
 use lib.Dec.{eqb, ltb}
 use borrow.Author.Tests.{eqb-true, eqb-false, lt-ltb}
 use Rattle.lists.specs.Lists.{all, countUp}
-use Rattle.lists.proofs.ListLaws.{all-nil, all-both}
-use Rattle.lists.proofs.IndexLaws.{map-length, map-at, count-long, count-at}
+use Rattle.lists.proofs.IndexLaws.{all-index, map-length, map-at, count-long, count-at}
 use Rattle.format.specs.Structure.{united}
 use Rattle.format.proofs.GroupLaws.{lower, lower-left, lower-right, lower-other, united-at, united-long}
 use Rattle.groups.specs.Pointers.{Pointing, Leads, Found, Joins}
@@ -181,11 +180,7 @@ module _ (ps₀ ps : List ℕ) (pointing : Pointing ps₀) (j : ℕ) (h : j < le
 
 -- none is above
 pub pointing-all : (ps : List ℕ) → Pointing ps → all (λ l. ltb l (length ps)) ps ≡ true
-pointing-all ps low = each (λ l. ltb l (length ps)) ps (λ i h. lt-ltb (getD ps i 0) (length ps) (omega (arith, h, low i h)))
-  where
-    each : (p : ℕ → Bool) (xs : List ℕ) → ((i : ℕ) → i < length xs → p (getD xs i 0) ≡ true) → all p xs ≡ true
-    each p [] f = all-nil p
-    each p (x ∷ xs) f = all-both p x xs (f 0 (omega arith)) (each p xs (λ i h. f (suc i) (omega arith)))
+pointing-all ps low = all-index (λ l. ltb l (length ps)) 0 ps (λ i h. lt-ltb (getD ps i 0) (length ps) (omega (arith, h, low i h)))
 
 pub settled-all : (ps₀ ps : List ℕ) (j : ℕ) → length ps ≤ j → Settled ps₀ j ps → (ls : List ℕ) → Leads ls ps₀ → map suc ps ≡ ls
 settled-all ps₀ ps j h s ls leads =

@@ -6,7 +6,7 @@ use mathlib.Core.Bool.{Bool, true, false, _&&_}
 use mathlib.Core.List.{List, [], _∷_, map}
 use native.Mathlib.Omega.{arith}
 use lib.Dec.{eqb}
-use lib.ListN.{length, getD}
+use lib.ListN.{length, getD, replicate}
 use borrow.Author.Tests.{eqb-true, eqb-false}
 use Rattle.lists.specs.Lists.{all, any, span, countUp}
 use Rattle.lists.specs.Order.{ascends, Strict}
@@ -25,6 +25,11 @@ module _ {A : Type 0} (p : A → Bool) (d : A) where
   pub any-nowhere : (xs : List A) → ((i : ℕ) → i < length xs → p (getD xs i d) ≡ false) → any p xs ≡ false
   any-nowhere [] f = any-nil p
   any-nowhere (x ∷ xs) f = any-neither p x xs (f 0 (omega arith)) (any-nowhere xs (λ i h. f (suc i) (omega arith)))
+
+  -- all do
+  pub all-index : (xs : List A) → ((i : ℕ) → i < length xs → p (getD xs i d) ≡ true) → all p xs ≡ true
+  all-index [] f = all-nil p
+  all-index (x ∷ xs) f = all-both p x xs (f 0 (omega arith)) (all-index xs (λ i h. f (suc i) (omega arith)))
 
   -- where a run ends
   pub span-index : (xs : List A) (n : ℕ) → n ≤ length xs → ((i : ℕ) → i < n → p (getD xs i d) ≡ true) → (n < length xs → p (getD xs n d) ≡ false) → span p xs ≡ n
@@ -73,6 +78,12 @@ at-below f (suc n) h k l = go (eqb k n) refl (and-parts (f n) (below f n) h .0) 
     go : (t : Bool) → eqb k n ≡ t → f n ≡ true → (k < n → f k ≡ true) → f k ≡ true
     go true e p ih = ap f (eqb-true k n e) ∙ p
     go false e p ih = ih (omega (arith, eqb-false k n e))
+
+-- NOUGHTS
+pub noughts-at : (n i : ℕ) → _≡_ {A = ℕ} (getD {A = ℕ} (replicate n 0) i 0) 0
+noughts-at zero i = refl
+noughts-at (suc n) zero = refl
+noughts-at (suc n) (suc i) = noughts-at n i
 
 -- NUMBERS IN TURN
 pub count-long : (a n : ℕ) → length (countUp a n) ≡ n

@@ -7,7 +7,7 @@ use mathlib.Core.Logic.{inl}
 use mathlib.Core.Option.{Option, none, some}
 use mathlib.Core.List.{List, [], _∷_, map}
 use native.Mathlib.Omega.{arith}
-use lib.ListN.{length, getD, set, replicate}
+use lib.ListN.{length, getD, set}
 use lib.IntN.{pos}
 use lib.Seq.{getD-set-same, getD-set-other}
 use lib.Dec.{eqb}
@@ -17,6 +17,7 @@ use Rattle.lists.specs.Order.{sort}
 use Rattle.lists.proofs.Bools.{torn, never, and-left-false, and-right-false, eqb-same}
 use Rattle.lists.proofs.ListLaws.{all-parts, all-imply, any-nil, any-hit, any-neither}
 use Rattle.lists.proofs.PartLaws.{filled-nil, filled-length}
+use Rattle.lists.proofs.IndexLaws.{noughts-at}
 use Rattle.lists.proofs.SortLaws.{sort-ascends, sort-any, sort-all, sort-pairs, sort-length}
 use Rattle.format.specs.Bytes.{within, isIn}
 use Rattle.format.specs.Rows.{Row, row}
@@ -53,14 +54,9 @@ has-void n (r ∷ rs) = any-neither (λ x. has n x && void x) r rs (go (r .atoms
     go [] e = and-left-false (has n r) (void r) (ap (isIn n) e ∙ any-nil (eqb n))
     go (m ∷ ms) e = and-right-false (has n r) (void r) (ap isNil e)
 
-pub getD-zeros : (n k : ℕ) → _≡_ {A = ℕ} (getD {A = ℕ} (replicate n 0) k 0) 0
-getD-zeros zero k = refl
-getD-zeros (suc n) zero = refl
-getD-zeros (suc n) (suc k) = getD-zeros n k
-
 -- the numbers before any row has one
 pub blank-at : (n k : ℕ) → _≡_ {A = ℕ} (getD {A = ℕ} (filled 0 n []) k 0) 0
-blank-at n k = ap (λ (l : List ℕ). getD l k 0) (filled-nil 0 n) ∙ getD-zeros n k
+blank-at n k = ap (λ (l : List ℕ). getD l k 0) (filled-nil 0 n) ∙ noughts-at n k
 
 module _ (s : Bool) (atoms : ℕ) (rs : List Row) (fit : Fits (listOf s) atoms rs) (few : length rs ≤ 64) where
   abbrev sorted : List Row

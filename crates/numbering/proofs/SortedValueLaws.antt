@@ -9,6 +9,7 @@ use lib.ListN.{length, take, drop, getD, set, replicate, length-set, length-map}
 use lib.Seq.{ext-getD, getD-set-same, getD-set-other}
 use lib.Dec.{eqb, ltb}
 use borrow.Author.Tests.{eqb-true, eqb-false, ltb-true, ltb-false}
+use Rattle.lists.proofs.IndexLaws.{noughts-at}
 use Rattle.lists.specs.Lists.{filled}
 use Rattle.lists.specs.Order.{sort}
 use Rattle.lists.proofs.PartLaws.{filled-is, filled-length, getD-past}
@@ -18,7 +19,7 @@ use Rattle.format.specs.Structure.{rowBefore}
 use Rattle.sorted.specs.Regions.{arrived, coded, spreadRegion}
 use Rattle.spread.proofs.PlaceLaws.{arrived-length, getD-front, codeOf}
 use Rattle.numbering.specs.Numbering.{Renumbered, putAt, through}
-use Rattle.numbering.proofs.RenumberLaws.{getD-zeros, blank-at}
+use Rattle.numbering.proofs.RenumberLaws.{blank-at}
 use Rattle.numbering.proofs.OrderingLaws.{put-is, through-nil, through-cons, region-values}
 
 -- A FILLED LIST at an index
@@ -26,7 +27,7 @@ filled-front : (n : ℕ) (l : List ℕ) (i : ℕ) → i < length l → getD (fil
 filled-front n l i h = ap (λ (m : List ℕ). getD m i 0) (filled-is 0 n l) ∙ getD-front l (replicate (n - length l) 0) i h
 
 filled-behind : (n : ℕ) (l : List ℕ) (i : ℕ) → length l ≤ i → getD (filled 0 n l) i 0 ≡ 0
-filled-behind n l i h = ap (λ (m : List ℕ). getD m i 0) (filled-is 0 n l) ∙ getD-past 0 i l (replicate (n - length l) 0) h ∙ getD-zeros (n - length l) (i - length l)
+filled-behind n l i h = ap (λ (m : List ℕ). getD m i 0) (filled-is 0 n l) ∙ getD-past 0 i l (replicate (n - length l) 0) h ∙ noughts-at (n - length l) (i - length l)
 
 module _ (order whole : List ℕ) where
   -- the value of row i stands at its place in the whole
