@@ -8,7 +8,7 @@ use native.Mathlib.Nat.{not-suc-le-zero, le-of-suc-le-suc}
 use native.Mathlib.Numerals.{add-one}
 use native.Mathlib.Omega.{arith}
 use borrow.Author.Needs.{sfits-of}
-use borrow.Author.Tests.{le-ltb, lt-leb, le-leb}
+use borrow.Author.Tests.{le-ltb, lt-leb, le-leb, ltb-true, ltb-false}
 use lib.Dec.{T, leb}
 use lib.ListN.{length, getD}
 use lib.IntN.{ℤ, pos, negsuc, natAbs, _-ℤ_}
@@ -20,7 +20,19 @@ use Rattle.lists.proofs.Bools.{torn}
 use Rattle.format.specs.Bytes.{within}
 use Rattle.format.specs.Structure.{ranging}
 use Rattle.format.specs.Table.{cell}
+use Rattle.format.proofs.ByteLaws.{within-low}
 use Rattle.cells.specs.Signs.{negative}
+
+ranging-pos : (l h n : ℕ) → ranging l h (pos n) ≡ within l h n
+unfolding ranging
+ranging-pos l h n = refl
+
+ranging-neg : (l h n : ℕ) → ranging l h (negsuc n) ≡ false
+unfolding ranging
+ranging-neg l h n = refl
+
+pub ranging-plain : (l h : ℕ) (z : ℤ) → z ≡ pos (natAbs z) → ranging l h z ≡ within l h (natAbs z)
+ranging-plain l h z e = ap (ranging l h) e ∙ ranging-pos l h (natAbs z)
 
 -- beyond the end stands the default
 pub beyond : {A : Type 0} (d : A) (l : List A) (i : ℕ) → length l ≤ i → getD l i d ≡ d
@@ -36,7 +48,7 @@ unfolding negative
 sign-beyond t i h = sym (ap negative (beyond (pos 0) t i h))
 
 -- THE MACHINE'S NUMBER, whose bits are those of z
-abbrev machine : ℤ → ℤ
+abbrev pub machine : ℤ → ℤ
 machine z = toZ w32 (ofZ w32 z)
 
 machine-is : (z : ℤ) → mag z < 2 ^ 31 → machine z ≡ z
@@ -94,6 +106,28 @@ module _ (z : ℤ) (b : mag z < 2 ^ 31) (h : ltZ (machine z) (pos 0) ≡ true) w
 
   pub below-size : natAbs (machine (negsuc 0 -ℤ machine z)) + 1 ≡ natAbs z
   below-size = ap (λ y. natAbs y + 1) read-back ∙ size-is z sign
+
+-- AGAINST A LIMIT: below it, or a number without a sign that is not
+pub below-limit : (l h : ℕ) (z : ℤ) → mag z < 2 ^ 31 → ltZ (machine z) (pos l) ≡ true → ranging l h z ≡ false
+below-limit l h z b e = by z (ap (λ y. ltZ y (pos l)) (sym (machine-is z b)) ∙ e)
+  where
+    by : (y : ℤ) → ltZ y (pos l) ≡ true → ranging l h y ≡ false
+    by (pos n) f = ranging-pos l h n ∙ within-low l h n (ltb-true n l f)
+    by (negsuc n) f = ranging-neg l h n
+
+pub record Plain (l : ℕ) (z : ℤ) : Type 0 where
+  pub is : z ≡ pos (natAbs z)
+  pub low : l ≤ natAbs z
+  pub small : natAbs z < 2 ^ 31
+  pub unsigned : T (nonNeg (machine z))
+  pub same : natAbs (machine z) ≡ natAbs z
+
+pub not-below-limit : (l : ℕ) (z : ℤ) → mag z < 2 ^ 31 → ltZ (machine z) (pos l) ≡ false → Plain l z
+not-below-limit l z b e = by z b (ap (λ y. ltZ y (pos l)) (sym (machine-is z b)) ∙ e)
+  where
+    by : (y : ℤ) → mag y < 2 ^ 31 → ltZ y (pos l) ≡ false → Plain l y
+    by (pos n) c f = record { is = refl; low = ltb-false n l f; small = c; unsigned = rw (machine-is (pos n) c) tt; same = ap natAbs (machine-is (pos n) c) }
+    by (negsuc n) c f = torn true refl f
 
 -- BETWEEN TWO LIMITS
 module _ (low high : ℕ) where

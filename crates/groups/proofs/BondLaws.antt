@@ -27,7 +27,7 @@ first-is : (u : List ℤ) → getD (bondAt u .atoms) 0 0 ≡ natAbs (getD u 0 (p
 first-is [] = refl
 first-is (x ∷ u) = refl
 
-second-is : (u : List ℤ) → getD (bondAt u .atoms) 1 0 ≡ natAbs (getD u 1 (pos 0))
+pub second-is : (u : List ℤ) → getD (bondAt u .atoms) 1 0 ≡ natAbs (getD u 1 (pos 0))
 second-is [] = refl
 second-is (x ∷ []) = refl
 second-is (x ∷ y ∷ u) = refl

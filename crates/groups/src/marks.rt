@@ -1,15 +1,18 @@
 // Whether all atoms are of one group, as in most blocks: document 02, L1. An atom is marked where a bond joins it to a lower one; where every atom but the first is
 // marked, each leads down to the first, and no path need be followed.
 ghost use mathlib.Core.Path.{_≡_};
-ghost use Prim.Native.Nat.{_≤_};
-ghost use lib.ListN.{length, drop, replicate};
+ghost use Prim.Native.Nat.{_+_, _*_, _≤_};
+ghost use lib.ListN.{length, getD, drop, replicate};
+ghost use lib.IntN.{pos};
 ghost use lib.Dec.{ltb};
 ghost use Rattle.lists.specs.Lists.{all, rowsFrom};
 ghost use Rattle.format.specs.Table.{bondAt};
 ghost use Rattle.groups.specs.Marks.{markedBy, marked, OneGroup};
 use crate::LAST_JOINING;
-use cells::cell;
 use format::Table;
+
+// How many numbers a bond has.
+const WIDTH: usize = 3;
 
 // No atom is marked.
 fn clear(marks: &mut [u8])
@@ -22,37 +25,39 @@ fn clear(marks: &mut [u8])
     }
 }
 
-// The higher atom of a bond of the table, which is its second, if the bond joins. The first atom has none below it.
-fn mark_bond(table: &[i32], place: usize, marks: &mut [u8])
-    requires { ⌜ place ≤ 3856 ⌝ }
-    ensures { λ _. ⌜ now (marks .exit) ≡ markedBy (bondAt (drop place (now (table .entry)))) (now (marks .entry)) ⌝ }
+// The higher atom of a bond, which is its second number, if the bond joins. The first atom has none below it.
+fn mark_bond(rows: &[i32], place: usize, marks: &mut [u8])
+    requires { ⌜ place + 3 ≤ length (now rows) ⌝ }
+    ensures { λ _. ⌜ now (marks .exit) ≡ markedBy (getD (now (rows .entry)) (place + 1) (pos 0)) (getD (now (rows .entry)) (place + 2) (pos 0)) (now (marks .entry)) ⌝ }
 {
-    let kind = cell(table, place + 2);
-    if kind < 1 {
+    let number = rows[place + 2];
+    if number < 1 {
         return;
     }
+    let kind = number as u32;
     if LAST_JOINING < kind {
         return;
     }
-    let higher = cell(table, place + 1) as usize;
-    if higher < 2 {
+    let second = rows[place + 1];
+    if second < 2 {
         return;
     }
+    let higher = second as usize;
     if marks.len() < higher {
         return;
     }
     marks[higher - 1] = 1;
 }
 
-// The first so many bonds of the table, the last one first.
-fn mark_bonds(table: &[i32], bonds: usize, marks: &mut [u8])
-    requires { ⌜ bonds ≤ 512 ⌝ }
-    ensures { λ _. ⌜ now (marks .exit) ≡ marked (rowsFrom 3 bondAt bonds (drop 1296 (now (table .entry)))) (now (marks .entry)) ⌝ }
+// The first so many bonds, the last one first.
+fn mark_bonds(rows: &[i32], bonds: usize, marks: &mut [u8])
+    requires { ⌜ 3 * bonds ≤ length (now rows) ⌝ }
+    ensures { λ _. ⌜ now (marks .exit) ≡ marked bonds (now (rows .entry)) (now (marks .entry)) ⌝ }
 {
     let mut i = bonds;
     while 0 < i {
         i = i - 1;
-        mark_bond(table, Table::bond(i), marks);
+        mark_bond(rows, WIDTH * i, marks);
     }
 }
 
@@ -70,13 +75,20 @@ fn all_marked(marks: &[u8]) -> bool
     true
 }
 
-// Whether the first so many bonds of the table join all atoms; then each has the first atom's index, 0.
+// Whether the first so many bonds of the table join all atoms; then each has the first atom's index, 0. A table that is too short is not looked at.
 pub fn is_one_group(table: &[i32], bonds: usize, labels: &mut [u8]) -> bool
     requires { ⌜ bonds ≤ 512 ⌝ }
     ensures { λ r. ⌜ (length (now (labels .exit)) ≡ length (now (labels .entry))) × OneGroup (length (now (labels .entry))) (rowsFrom 3 bondAt bonds (drop 1296 (now (table .entry)))) r (now (labels .exit)) ⌝ }
 {
+    if table.len() < Table::SIZE {
+        return false;
+    }
     clear(labels);
-    mark_bonds(table, bonds, labels);
+    mark_bonds(
+        &table[Table::FIRST_BOND..Table::FIRST_CHARGE],
+        bonds,
+        labels,
+    );
     if !all_marked(labels) {
         return false;
     }

@@ -1,61 +1,76 @@
 -- `groups::marks::mark_bond` meets its contract. Assumes nothing.
-use Rattle.groups.proofs.MarkLaws.{none-marks, weak-marks, first-marks, beyond-marks, second-marks}
+use Prim.Native.Nat.{_+_}
 use native.Mathlib.Omega.{arith}
+use lib.ListN.{getD}
+use lib.IntN.{pos}
+use Rattle.groups.proofs.MarkLaws.{kind-low, kind-fits, kind-weak, second-low, second-fits, second-some, second-beyond, second-in}
 use borrow.Author.Needs.{needs}
 use Rattle.groups.proofs.marks.mark_bond.Statement.{statement}
 use Rattle.groups.proofs.marks.mark_bond.Tie as tie
 
-add-cell : tie.Need-add-cell
-add-cell c = search needs
+add-number : tie.Need-add-number
+add-number c = search needs
 
-cell-requires : tie.Need-cell-requires
-cell-requires c κs = search needs
+mul-number : tie.Need-mul-number
+mul-number c = search needs
+
+shared-slice-copy-out-number : tie.Need-shared-slice-copy-out-number
+shared-slice-copy-out-number c = search needs
 
 returns : tie.Need-returns
-returns c = none-marks (c .before .before .before .args .table .now) _ _ _ (c .before .cell .ensures) (c .if1 .taken)
+returns c = let st = c .before .before in kind-low (getD (st .args .rows .now) (st .args .place + 1) (pos 0)) (getD (st .args .rows .now) (st .args .place + 2) (pos 0)) (st .args .marks .now) (c .before .number .given) (c .if1 .taken)
+
+cast-kind : tie.Need-cast-kind
+cast-kind c = let st = c .before .before in kind-fits (getD (st .args .rows .now) (st .args .place + 1) (pos 0)) (getD (st .args .rows .now) (st .args .place + 2) (pos 0)) (st .args .marks .now) (c .before .number .given) (c .if1 .left)
 
 returns-2 : tie.Need-returns-2
-returns-2 c = weak-marks (c .before .before .before .before .args .table .now) _ _ _ (c .before .before .cell .ensures) (omega (arith, c .if2 .taken))
+returns-2 c = let n = c .before .before in let st = n .before in kind-weak (getD (st .args .rows .now) (st .args .place + 1) (pos 0)) (getD (st .args .rows .now) (st .args .place + 2) (pos 0)) (st .args .marks .now) (n .number .given) (c .before .if1 .left) (omega (arith, c .if2 .taken))
 
-add-cell-2 : tie.Need-add-cell-2
-add-cell-2 c = search needs
+add-second : tie.Need-add-second
+add-second c = search needs
 
-cell-requires-2 : tie.Need-cell-requires-2
-cell-requires-2 c κs = search needs
+mul-second : tie.Need-mul-second
+mul-second c = search needs
 
-cast-higher : tie.Need-cast-higher
-cast-higher c = search needs
+shared-slice-copy-out-second : tie.Need-shared-slice-copy-out-second
+shared-slice-copy-out-second c = search needs
 
 returns-3 : tie.Need-returns-3
-returns-3 c = let d = c .before in let s = d .before .before .before .before .before in first-marks (s .args .table .now) _ _ _ (d .before .before .before .cell .ensures) (d .before .before .if1 .left) (d .before .if2 .left) _ (d .cell2 .ensures) (c .if3 .taken)
+returns-3 c = let e = c .before .before in let n = e .before .before in let st = n .before in second-low (getD (st .args .rows .now) (st .args .place + 1) (pos 0)) (getD (st .args .rows .now) (st .args .place + 2) (pos 0)) (st .args .marks .now) (n .number .given) (e .before .if1 .left) (e .if2 .left) (c .before .second .given) (c .if3 .taken)
+
+cast-higher : tie.Need-cast-higher
+cast-higher c = let e = c .before .before in let n = e .before .before in let st = n .before in second-fits (getD (st .args .rows .now) (st .args .place + 1) (pos 0)) (getD (st .args .rows .now) (st .args .place + 2) (pos 0)) (st .args .marks .now) (n .number .given) (e .before .if1 .left) (e .if2 .left) (c .before .second .given) (c .if3 .left)
 
 returns-4 : tie.Need-returns-4
-returns-4 c = let d = c .before .before in let s = d .before .before .before .before .before in beyond-marks (s .args .table .now) _ _ _ (d .before .before .before .cell .ensures) (d .before .before .if1 .left) (d .before .if2 .left) _ (d .cell2 .ensures) (c .if4 .taken)
+returns-4 c = let g = c .before in let e = g .before .before in let n = e .before .before in let st = n .before in second-beyond (getD (st .args .rows .now) (st .args .place + 1) (pos 0)) (getD (st .args .rows .now) (st .args .place + 2) (pos 0)) (st .args .marks .now) (n .number .given) (e .before .if1 .left) (e .if2 .left) (g .before .second .given) (g .if3 .left) (c .if4 .taken)
 
 sub-marks : tie.Need-sub-marks
-sub-marks c = search needs
+sub-marks c = let g = c .before in let e = g .before .before in let n = e .before .before in let st = n .before in omega (arith, second-some (getD (st .args .rows .now) (st .args .place + 1) (pos 0)) (getD (st .args .rows .now) (st .args .place + 2) (pos 0)) (st .args .marks .now) (n .number .given) (e .before .if1 .left) (e .if2 .left) (g .before .second .given) (g .if3 .left), c .if4 .left)
 
 slice-write-marks : tie.Need-slice-write-marks
-slice-write-marks c = search needs
+slice-write-marks c = let g = c .before in let e = g .before .before in let n = e .before .before in let st = n .before in omega (arith, second-some (getD (st .args .rows .now) (st .args .place + 1) (pos 0)) (getD (st .args .rows .now) (st .args .place + 2) (pos 0)) (st .args .marks .now) (n .number .given) (e .before .if1 .left) (e .if2 .left) (g .before .second .given) (g .if3 .left), c .if4 .left)
 
 same-length : tie.Need-same-length
 same-length c = search needs
 
 returns-5 : tie.Need-returns-5
-returns-5 c = let d = c .before .before in let s = d .before .before .before .before .before in second-marks (s .args .table .now) _ (s .args .marks .now) _ (d .before .before .before .cell .ensures) (d .before .before .if1 .left) (d .before .if2 .left) _ (d .cell2 .ensures) (c .before .if3 .left) (c .if4 .left)
+returns-5 c = let g = c .before in let e = g .before .before in let n = e .before .before in let st = n .before in second-in (getD (st .args .rows .now) (st .args .place + 1) (pos 0)) (getD (st .args .rows .now) (st .args .place + 2) (pos 0)) (st .args .marks .now) (n .number .given) (e .before .if1 .left) (e .if2 .left) (g .before .second .given) (g .if3 .left) (c .if4 .left)
 
 pub mark-bond-spec : {M : Type 1} → statement M
 mark-bond-spec =
     tie.close
     (tie.spec
-    add-cell
-    cell-requires
+    add-number
+    mul-number
+    shared-slice-copy-out-number
     returns
+    cast-kind
     returns-2
-    add-cell-2
-    cell-requires-2
-    cast-higher
+    add-second
+    mul-second
+    shared-slice-copy-out-second
     returns-3
+    cast-higher
     returns-4
     sub-marks
     slice-write-marks

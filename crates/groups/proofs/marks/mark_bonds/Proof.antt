@@ -1,44 +1,42 @@
 -- `groups::marks::mark_bonds` meets its contract. Assumes nothing.
-use Prim.Native.Nat.{_≤_}
-use mathlib.Core.Path.{_≡_, ap, _∙_}
+use Prim.Native.Nat.{_-_, _*_, _≤_}
+use mathlib.Core.Path.{_≡_, refl, ap, _∙_}
 use native.Mathlib.Omega.{arith}
 use borrow.Author.Needs.{needs}
-use lib.ListN.{length}
-use Rattle.groups.specs.Marks.{marked}
-use Rattle.groups.proofs.BondLaws.{bondsFrom, place-within}
-use Rattle.groups.proofs.MarkLaws.{marked-long, marks-none, marks-more, marks-all}
+use lib.ListN.{length, drop}
+use Rattle.groups.proofs.MarkLaws.{markedFrom, marked-long, marks-none, marks-more, marks-all}
 use Rattle.groups.proofs.marks.mark_bonds.Statement.{statement}
 use Rattle.groups.proofs.marks.mark_bonds.Tie as tie
 
 abbrev Inv-loop : tie.InvT-loop
-Inv-loop table bonds marks₀ i₀ marks i = (i ≤ bonds) × (marks ≡ marked (bondsFrom table bonds i) marks₀)
+Inv-loop rows bonds marks₀ i₀ marks i = (i ≤ bonds) × (marks ≡ markedFrom rows bonds marks₀ i)
 
 abbrev μ-loop : tie.MeasureT-loop
-μ-loop table bonds marks₀ i₀ marks i = i
+μ-loop rows bonds marks₀ i₀ marks i = i
 
 loop-holds : tie.Need-loop-holds Inv-loop μ-loop
-loop-holds c = (omega arith, marks-none (c .before .args .table .now) _ _)
+loop-holds c = (omega arith, marks-none (c .before .args .rows .now) _ _)
 
 sub-i : tie.Need-sub-i Inv-loop μ-loop
 sub-i c = search needs
 
-bond-requires : tie.Need-bond-requires Inv-loop μ-loop
-bond-requires c κs = search needs
+mul-mark-bond : tie.Need-mul-mark-bond Inv-loop μ-loop
+mul-mark-bond c = search needs
 
 mark-bond-requires : tie.Need-mark-bond-requires Inv-loop μ-loop
-mark-bond-requires c κs = let l = c .before .before .before in let st = l .before .before in place-within (st .args .table .now) (st .args .bonds) (st .args .marks .now) _ _ (c .before .before .loop-test .taken) (l .loop .inv .0) (st .pre) (c .before .bond .ensures)
+mark-bond-requires c κs = let l = c .before .before in omega (arith, c .before .loop-test .taken, l .loop .inv .0, l .before .before .pre)
 
 loop-less : tie.Need-loop-less Inv-loop μ-loop
 loop-less c = search needs
 
 loop-again : tie.Need-loop-again Inv-loop μ-loop
-loop-again c = let l = c .before .before .before .before .before .before in let st = l .before .before in (omega arith, marks-more (st .args .table .now) (st .args .bonds) (st .args .marks .now) _ _ (l .loop .marks) _ (c .before .before .before .before .before .loop-test .taken) (l .loop .inv .0) (st .pre) (c .before .before .before .before .bond .ensures) (l .loop .inv .1) (c .before .before .mark-bond .ensures))
+loop-again c = let l = c .before .before .before .before .before in let st = l .before .before in (omega arith, marks-more (st .args .rows .now) (st .args .bonds) (st .args .marks .now) _ _ (l .loop .marks) _ (c .before .before .before .before .loop-test .taken) (l .loop .inv .0) refl (l .loop .inv .1) (c .before .before .mark-bond .ensures))
 
 same-length : tie.Need-same-length Inv-loop μ-loop
-same-length c = let st = c .before .before .before in ap length (c .before .loop .inv .1) ∙ marked-long (bondsFrom (st .args .table .now) (st .args .bonds) (c .before .loop .i)) (st .args .marks .now)
+same-length c = let st = c .before .before .before in let i = c .before .loop .i in ap length (c .before .loop .inv .1) ∙ marked-long (st .args .bonds - i) (drop (3 * i) (st .args .rows .now)) (st .args .marks .now)
 
 returns : tie.Need-returns Inv-loop μ-loop
-returns c = let st = c .before .before .before in marks-all (st .args .table .now) (st .args .bonds) (st .args .marks .now) _ (c .before .loop .marks) (c .loop-test .left) (c .before .loop .inv .1)
+returns c = let st = c .before .before .before in marks-all (st .args .rows .now) (st .args .bonds) (st .args .marks .now) _ (c .before .loop .marks) (c .loop-test .left) (c .before .loop .inv .1)
 
 pub mark-bonds-spec : {M : Type 1} → statement M
 mark-bonds-spec =
@@ -48,7 +46,7 @@ mark-bonds-spec =
     μ-loop
     loop-holds
     sub-i
-    bond-requires
+    mul-mark-bond
     mark-bond-requires
     loop-less
     loop-again
