@@ -2,7 +2,7 @@
 -- L1. Over plain lists. Assumes nothing.
 use Prim.Native.Nat.{ℕ, zero, suc, _+_, _-_, _*_, _^_, _≤_, _<_}
 use mathlib.Core.Path.{_≡_, refl, sym, ap, ap₂, _∙_, subst}
-use mathlib.Core.Bool.{Bool, true, false, _&&_, not}
+use mathlib.Core.Bool.{Bool, true, false, _&&_}
 use mathlib.Core.List.{List, [], _∷_, map}
 use native.Mathlib.Omega.{arith}
 use lib.ListN.{length, getD, set, take, drop, replicate, length-set, length-replicate, length-drop}
@@ -13,9 +13,9 @@ use lib.Signed.{ltZ, mag, nonNeg}
 use mir.Syntax.{w32, w64}
 use mir.Val.{Fits}
 use borrow.Author.Tests.{eqb-true, eqb-false, ltb-true, lt-ltb, le-ltb}
-use Rattle.lists.specs.Lists.{all, rowsFrom}
-use Rattle.lists.proofs.Bools.{torn, not-of-false, always, and-parts, and-both, and-left-false, and-right-false}
-use Rattle.lists.proofs.ListLaws.{all-nil, all-at, all-parts, all-replicate, all-step, all-miss, all-end}
+use Rattle.lists.specs.Lists.{share, all, rowsFrom}
+use Rattle.lists.proofs.Bools.{torn, and-parts, and-both, and-left-false, and-right-false}
+use Rattle.lists.proofs.ListLaws.{all-nil, all-both, all-at, all-parts, all-replicate}
 use Rattle.lists.proofs.IndexLaws.{noughts-at, map-length, map-at}
 use Rattle.lists.proofs.RegionLaws.{rows-zero, rows-suc}
 use Rattle.format.specs.Bytes.{within}
@@ -23,11 +23,11 @@ use Rattle.format.specs.Labels.{Bonds}
 use Rattle.format.specs.Rows.{Row}
 use Rattle.format.specs.Structure.{ranging, rowOk, lowestOf, lowest}
 use Rattle.format.specs.Table.{bondAt}
-use Rattle.format.proofs.ByteLaws.{within-is, within-high}
+use Rattle.format.proofs.ByteLaws.{within-is, within-high, within-true}
 use Rattle.format.proofs.GroupLaws.{Ends, bond-ends, Level, Levels, more, known}
 use Rattle.cells.proofs.SignLaws.{machine, below-limit, Plain, not-below-limit, ranging-plain}
 use Rattle.groups.specs.Grouping.{AllFine, LowestAtoms}
-use Rattle.groups.specs.Marks.{markedBy, marked, OneGroup}
+use Rattle.groups.specs.Marks.{markedBy, marked, ones, OneGroup}
 use Rattle.groups.proofs.BondLaws.{second-is}
 
 -- A BOND marks its second atom, or none
@@ -121,22 +121,59 @@ clear-more ms i h before j b = go (eqb j i) refl
 pub clear-all : (ms : List ℕ) (i n : ℕ) → length ms ≤ i → length ms ≡ n → ((j : ℕ) → j < i → getD ms j 0 ≡ 0) → ms ≡ replicate n 0
 clear-all ms i n h e each = ext-getD 0 ms (replicate n 0) (e ∙ sym (length-replicate n 0)) (λ j b. each j (omega arith) ∙ sym (noughts-at n j))
 
--- ALL BUT THE FIRST MARKED, from the i-th on
-module _ (ms : List ℕ) (i : ℕ) where
-  pub unmarked-at : i < length ms → getD ms i 0 ≡ 0 → all (ltb 0) (drop i ms) ≡ all (ltb 0) (drop 1 ms) → false ≡ all (ltb 0) (drop 1 ms)
-  unmarked-at h e inv = sym (all-miss (ltb 0) 0 ms i h (le-ltb 0 (getD ms i 0) (omega (arith, e)))) ∙ inv
+-- HOW MANY ARE MARKED
+ones-nil : ones [] ≡ 0
+unfolding ones
+ones-nil = refl
 
-  pub marked-at : i < length ms → (getD ms i 0 ≡ 0 → ⊥) → all (ltb 0) (drop i ms) ≡ all (ltb 0) (drop 1 ms) → all (ltb 0) (drop (i + 1) ms) ≡ all (ltb 0) (drop 1 ms)
-  marked-at h e inv = sym (all-step (ltb 0) 0 ms i h (lt-ltb 0 (getD ms i 0) (omega (arith, e)))) ∙ inv
+ones-cons : (m : ℕ) (ms : List ℕ) → ones (m ∷ ms) ≡ share (ltb 0 m) 1 + ones ms
+unfolding ones
+ones-cons m ms = refl
 
-  pub marked-end : length ms ≤ i → all (ltb 0) (drop i ms) ≡ all (ltb 0) (drop 1 ms) → true ≡ all (ltb 0) (drop 1 ms)
-  marked-end h inv = sym (all-end (ltb 0) ms i h) ∙ inv
+ones-mark : (m : ℕ) (ms : List ℕ) → 0 < m → ones (m ∷ ms) ≡ suc (ones ms)
+ones-mark m ms h = ones-cons m ms ∙ ap (λ (t : Bool). share t 1 + ones ms) (lt-ltb 0 m h) ∙ omega arith
+
+ones-free : (m : ℕ) (ms : List ℕ) → m ≡ 0 → ones (m ∷ ms) ≡ ones ms
+ones-free m ms e = ones-cons m ms ∙ ap (λ (t : Bool). share t 1 + ones ms) (le-ltb 0 m (omega (arith, e))) ∙ omega arith
+
+ones-most : (ms : List ℕ) → ones ms ≤ length ms
+ones-most [] = omega (arith, ones-nil)
+ones-most (zero ∷ ms) = omega (arith, ones-free 0 ms refl, ones-most ms)
+ones-most (suc m ∷ ms) = omega (arith, ones-mark (suc m) ms (omega arith), ones-most ms)
+
+ones-full : (ms : List ℕ) → length ms ≤ ones ms → all (ltb 0) ms ≡ true
+ones-full [] h = all-nil (ltb 0)
+ones-full (zero ∷ ms) h = absurd (omega (arith, h, ones-free 0 ms refl, ones-most ms))
+ones-full (suc m ∷ ms) h = all-both (ltb 0) (suc m) ms (lt-ltb 0 (suc m) (omega arith)) (ones-full ms (omega (arith, h, ones-mark (suc m) ms (omega arith))))
+
+ones-zeros : (n : ℕ) → ones (replicate n 0) ≡ 0
+ones-zeros zero = ones-nil
+ones-zeros (suc n) = ones-free 0 (replicate n 0) refl ∙ ones-zeros n
+
+all-but-first : (ms : List ℕ) → getD ms 0 0 ≡ 0 → length ms ≤ ones ms + 1 → all (ltb 0) (drop 1 ms) ≡ true
+all-but-first [] e h = all-nil (ltb 0)
+all-but-first (m ∷ ms) e h = ones-full ms (omega (arith, h, ones-free m ms e))
+
+pub ones-new : (ms : List ℕ) (i : ℕ) → i < length ms → getD ms i 0 ≡ 0 → ones (set ms i 1) ≡ 1 + ones ms
+ones-new [] i h e = absurd (omega (arith, h))
+ones-new (m ∷ ms) zero h e = omega (arith, ones-mark 1 ms (omega arith), ones-free m ms e)
+ones-new (m ∷ ms) (suc i) h e = omega (arith, ones-cons m (set ms i 1), ones-cons m ms, ones-new ms i (omega (arith, h)) e)
+
+pub ones-again : (ms : List ℕ) (i : ℕ) → i < length ms → (getD ms i 0 ≡ 0 → ⊥) → ones (set ms i 1) ≡ 0 + ones ms
+ones-again [] i h e = absurd (omega (arith, h))
+ones-again (m ∷ ms) zero h e = omega (arith, ones-mark 1 ms (omega arith), ones-mark m ms (omega (arith, e)))
+ones-again (m ∷ ms) (suc i) h e = omega (arith, ones-cons m (set ms i 1), ones-cons m ms, ones-again ms i (omega (arith, h)) e)
 
 -- AN ATOM THAT IS MARKED has a lower one of its group
 pub record Lower (ls : List ℕ) (j : ℕ) : Type 0 where
   pub at : ℕ
   pub below : at < j
   pub level : getD ls at 0 ≡ getD ls j 0
+
+ranging-from : (l h : ℕ) (z : ℤ) → ranging l h z ≡ true → l ≤ natAbs z
+unfolding ranging
+ranging-from l h (pos n) e = within-true l h n e .0
+ranging-from l h (negsuc n) e = torn false e refl
 
 by-long : (s k : ℤ) (ms : List ℕ) → length (markedBy s k ms) ≡ length ms
 by-long s k ms = go (marks s k ms) refl
@@ -148,6 +185,18 @@ by-long s k ms = go (marks s k ms) refl
 pub marked-long : (n : ℕ) (rows : List ℤ) (ms : List ℕ) → length (marked n rows ms) ≡ length ms
 marked-long zero rows ms = ap length (marked-none rows ms)
 marked-long (suc n) rows ms = ap length (marked-next n rows ms) ∙ by-long (getD rows 1 (pos 0)) (getD rows 2 (pos 0)) (marked n (drop 3 rows) ms) ∙ marked-long n (drop 3 rows) ms
+
+-- the first atom is not
+by-first : (s k : ℤ) (ms : List ℕ) → getD ms 0 0 ≡ 0 → getD (markedBy s k ms) 0 0 ≡ 0
+by-first s k ms e = go (marks s k ms) refl
+  where
+    go : (t : Bool) → marks s k ms ≡ t → getD (markedBy s k ms) 0 0 ≡ 0
+    go true f = ap (λ (l : List ℕ). getD l 0 0) (sym (is-marked s k ms f)) ∙ getD-set-other ms (natAbs s - 1) 0 1 0 (λ q. omega (arith, q, ranging-from 2 (length ms) s (and-parts (ranging 1 4 k) _ f .1))) ∙ e
+    go false f = ap (λ (l : List ℕ). getD l 0 0) (sym (unmarked s k ms f)) ∙ e
+
+marked-first : (m : ℕ) (u : List ℤ) (ms : List ℕ) → getD ms 0 0 ≡ 0 → getD (marked m u ms) 0 0 ≡ 0
+marked-first zero u ms e = ap (λ (l : List ℕ). getD l 0 0) (marked-none u ms) ∙ e
+marked-first (suc m) u ms e = ap (λ (l : List ℕ). getD l 0 0) (marked-next m u ms) ∙ by-first (getD u 1 (pos 0)) (getD u 2 (pos 0)) (marked m (drop 3 u) ms) (marked-first m (drop 3 u) ms e)
 
 second-lower : (n : ℕ) (ls : List ℕ) (r : Row) → rowOk Bonds n r ≡ true → lowestOf ls (getD (r .atoms) 0 0) ≡ lowestOf ls (getD (r .atoms) 1 0) → Lower ls (getD (r .atoms) 1 0 - 1)
 second-lower n ls r ok level = go (bond-ends n r ok)
@@ -268,7 +317,10 @@ module _ (n m : ℕ) (t : List ℤ) (few : m ≤ 512) (long : 3856 ≤ length t)
   pub several : (length ys ≡ n) × OneGroup n (rowsFrom 3 bondAt m (drop 1296 t)) false ys
   several = (as-long, λ e. torn true refl (sym e))
 
-  pub one : (told : Bool) (zs : List ℕ) → told ≡ all (ltb 0) (drop 1 ys) → not told ≡ false → zs ≡ replicate (length ys) 0 → (length zs ≡ n) × OneGroup n (rowsFrom 3 bondAt m (drop 1296 t)) true zs
-  one told zs e f g =
+  pub one : (count : ℕ) (zs : List ℕ) → ones ys ≡ count + ones xs → length ys ≤ count + 1 → zs ≡ replicate (length ys) 0 → (length zs ≡ n) × OneGroup n (rowsFrom 3 bondAt m (drop 1296 t)) true zs
+  one count zs e f g =
       let h : zs ≡ replicate n 0 = g ∙ ap (λ (m : ℕ). replicate m 0) as-long in
-      (ap length h ∙ length-replicate n 0, λ _. subst (λ (rs : List Row). LowestAtoms n rs zs) rows-are (subst (LowestAtoms n (rowsFrom 3 bondAt m u)) (sym h) (one-group n m u ys (set-so ∙ ap (marked m u) cleared) (sym e ∙ always told (λ q. torn (not told) (not-of-false told q) f)))))
+      let none-before : ones xs ≡ 0 = ap ones cleared ∙ ones-zeros n in
+      let first : getD ys 0 0 ≡ 0 = ap (λ (l : List ℕ). getD l 0 0) (set-so ∙ ap (marked m u) cleared) ∙ marked-first m u (replicate n 0) (noughts-at n 0) in
+      let full : all (ltb 0) (drop 1 ys) ≡ true = all-but-first ys first (omega (arith, e, f, none-before)) in
+      (ap length h ∙ length-replicate n 0, λ _. subst (λ (rs : List Row). LowestAtoms n rs zs) rows-are (subst (LowestAtoms n (rowsFrom 3 bondAt m u)) (sym h) (one-group n m u ys (set-so ∙ ap (marked m u) cleared) full)))

@@ -25,14 +25,14 @@ part-mark-bonds-end c = search needs
 mark-bonds-requires : tie.Need-mark-bonds-requires
 mark-bonds-requires c κs = search needs
 
-all-marked-requires : tie.Need-all-marked-requires
-all-marked-requires c κs = search needs
+add-if2 : tie.Need-add-if2
+add-if2 c = search needs
 
 same-length : tie.Need-same-length
 same-length c = search needs
 
 returns-2 : tie.Need-returns-2
-returns-2 c = let m = c .before .before .before .before .before in let l = m .before .before .before .before .before in let st = l .before .before .before .before in several _ _ (st .args .table .now) (st .pre) (l .before .before .if1 .left) _ _ (l .clear .ensures) (m .mark-bonds .ensures)
+returns-2 c = let m = c .before .before .before in let l = m .before .before .before .before .before in let st = l .before .before .before .before in several _ _ (st .args .table .now) (st .pre) (l .before .before .if1 .left) _ _ (l .clear .ensures) (m .mark-bonds .ensures .0)
 
 clear-requires-2 : tie.Need-clear-requires-2
 clear-requires-2 c κs = search needs
@@ -41,7 +41,7 @@ same-length-2 : tie.Need-same-length-2
 same-length-2 c = search needs
 
 returns-3 : tie.Need-returns-3
-returns-3 c = let a = c .before .before .before .before .before in let m = a .before .before .before .before in let l = m .before .before .before .before .before in let st = l .before .before .before .before in one _ _ (st .args .table .now) (st .pre) (l .before .before .if1 .left) _ _ (l .clear .ensures) (m .mark-bonds .ensures) _ _ (a .all-marked .ensures) (c .before .before .before .before .if2 .left) (c .before .before .clear2 .ensures)
+returns-3 c = let m = c .before .before .before .before .before .before .before in let l = m .before .before .before .before .before in let st = l .before .before .before .before in one _ _ (st .args .table .now) (st .pre) (l .before .before .if1 .left) _ _ (l .clear .ensures) (m .mark-bonds .ensures .0) _ _ (m .mark-bonds .ensures .1) (c .before .before .before .before .if2 .left) (c .before .before .clear2 .ensures)
 
 pub is-one-group-spec : {M : Type 1} → statement M
 is-one-group-spec =
@@ -53,7 +53,7 @@ is-one-group-spec =
     part-mark-bonds-start
     part-mark-bonds-end
     mark-bonds-requires
-    all-marked-requires
+    add-if2
     same-length
     returns-2
     clear-requires-2
