@@ -1,4 +1,6 @@
 // One byte: which of document 01's kinds it is: "Lines and labels" (blanks, allowed bytes), "Rows" (digits and letters).
+#![tactic(auto)]
+
 ghost use Rattle.std.specs.Prelude.{◌≡◌};
 ghost use Rattle.format.specs.Bytes.{gap, allowed};
 ghost use Rattle.format.specs.Rows.{digit, upper, lower};

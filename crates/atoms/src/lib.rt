@@ -1,5 +1,7 @@
 // Lines of ATOMLIST: document 01, "Rows". "Numbers run 1, 2, 3 and on.", so that an atom joins behind those that are there. A refusal is handed on with the line's
 // place. What no reading lends, another length or more atoms than 256, is answered 0, and nothing is touched.
+#![tactic(auto)]
+
 ghost use Rattle.std.specs.Prelude.{◌≡◌, List, [], ◌∷◌, ◌*◌, ◌≤◌, ◌<◌, length};
 ghost use Rattle.std.proofs.Math.Option.{some};
 ghost use Rattle.std.proofs.lemmas.List.Edits.{sets};

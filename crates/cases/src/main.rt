@@ -1,6 +1,8 @@
 // The program `cases`: every case of document 01 that is not starred, and those of document 02, L2 and L4, through the built reader. Standard input holds the
 // cases one behind the other: a head of eight bytes, `T` for a whole structure table or `S` for one that is too short, the block's length in six digits, a line feed; then
 // the block. It prints for each case `number place atoms bonds`, which the gate holds to what the independent reader gives for the same input.
+#![tactic(auto)]
+
 ghost use Rattle.std.specs.Prelude.{◌+◌, ◌≤◌, ◌<◌, ◌≡◌, length};
 
 use coordinates::table::Positions;

@@ -1,5 +1,7 @@
 // What stands in one number of a lent table: document 01, "The structure table" ("3,856 signed 32-bit numbers"). Every function is total: beyond the table's end
 // stands 0. No list, no rule of a list; those who judge or write a table read it through these four.
+#![tactic(auto)]
+
 ghost use Rattle.std.specs.Prelude.{◌≡◌, ◌≤◌, get_or, pos};
 ghost use Rattle.format.specs.Structure.{ranging};
 ghost use Rattle.format.specs.Table.{cell as cell_of, count_at};

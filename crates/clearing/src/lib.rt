@@ -1,4 +1,6 @@
 // Zeros in a lent table: document 01, "The structure table" ("unused ones are 0"), "Refusal numbers" ("Refusals 2 to 17 zero the 3,856 numbers").
+#![tactic(auto)]
+
 ghost use Rattle.std.specs.Prelude.{◌≡◌, ◌++◌, ◌≤◌, ◌<◌, length, drop};
 ghost use Rattle.format.specs.Table.{zeros};
 

@@ -1,4 +1,6 @@
 // Positions of atoms: document 02, L2 ("An atom's position is either three coordinates in Angstrom or not given").
+#![tactic(auto)]
+
 pub mod fill; // fill.rt: the whole table from the kept rows
 pub mod kept; // kept.rt: the rows' whole numbers, kept until the factor is known
 pub mod table; // table.rt: the lent table of 1,024 floats
@@ -11,7 +13,7 @@ use factor::Factor;
 use factor::scale::coordinate;
 
 // Three coordinates in Angstrom, or none.
-#[derive(Drop)]
+#[derive(Clone, Copy)]
 pub enum Position {
     At(f64, f64, f64),
     NotGiven,

@@ -7,7 +7,7 @@ use crate::Position;
 use format::Table;
 
 // The caller lends the numbers, so the type holds nothing of its own.
-#[derive(Drop)]
+#[derive(Clone, Copy)]
 pub struct Positions;
 
 impl Positions {

@@ -1,4 +1,6 @@
 // The element and the mass of a symbol: document 01, "Rows", ATOMLIST.
+#![tactic(auto)]
+
 mod places; // places.rt: the elements by their letters
 
 ghost use Rattle.std.specs.Prelude.{◌≡◌, false, [], ◌∷◌, take};
@@ -12,7 +14,7 @@ use crate::places::entry_at;
 use symbols::Mark;
 
 // An element (0 unknown) and a mass (0 none).
-#[derive(Drop)]
+#[derive(Clone, Copy)]
 pub struct Isotope {
     pub element: u32,
     pub mass: u32,

@@ -1,4 +1,6 @@
 // The factor of XYZ rows: document 02, L2 ("The factor is 1 to 9 digits with at most one point, anywhere, no sign or exponent").
+#![tactic(auto)]
+
 pub mod scale; // scale.rt: a row's whole number in Angstrom
 pub mod values; // values.rt: the values of MAX_XYZ and XYZ_FACTOR on their label lines
 
@@ -12,7 +14,7 @@ ghost use Rattle.factor.specs.ShownFactors.{ShowsFrom, ShowsParts, unpointed_of,
 use numbers::Numeral;
 
 // "The factor is kept with its value as a float beside its digits": the digits without the point, how many stood behind it, and the value.
-#[derive(Drop)]
+#[derive(Clone, Copy)]
 pub struct Factor {
     pub digits: u32,
     pub decimals: u32,
@@ -20,14 +22,14 @@ pub struct Factor {
 }
 
 // The factor, or the number of the refusal.
-#[derive(Drop)]
+#[derive(Clone, Copy)]
 pub enum FactorAnswer {
     Scale(Factor),
     Refused(u32),
 }
 
 // Where the front of a word ends at its first point, and where what is behind the point starts; both are the word's end where it has none.
-#[derive(Drop)]
+#[derive(Clone, Copy)]
 struct Parts {
     point: usize,
     behind: usize,

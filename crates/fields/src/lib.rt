@@ -1,4 +1,6 @@
 // Fields of a line: "Fields are parted by blanks." The line's own line feed parts them too.
+#![tactic(auto)]
+
 pub mod texts; // texts.rt: a text without what is cut from its ends
 
 ghost use Rattle.format.specs.Bytes.{gap, ink};
@@ -6,7 +8,7 @@ ghost use Rattle.alphabet.specs.Runs.{RunEnd};
 ghost use Rattle.fields.specs.NextFields.{NextField};
 
 // The part of a slice from one index up to another; where the two are equal there is none.
-#[derive(Drop)]
+#[derive(Clone, Copy)]
 pub struct Field {
     pub from: usize,
     pub to: usize,

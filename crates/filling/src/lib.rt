@@ -1,5 +1,7 @@
 // The regions of the structure table, filled: document 01, "The structure table" ("unused ones are 0"). Each is lent as a part of its own; one whose lengths or counts
 // do not fit is as it was.
+#![tactic(auto)]
+
 pub mod keyed; // keyed.rt: the regions of bonds, centres and pairs
 pub mod records; // records.rt: the atoms of the table, charge and radical values
 

@@ -1,5 +1,7 @@
 // The one written form of a table: document 01, "The one written form" ("Records in this order: TITLE, JCAMP-CS, ORIGIN, OWNER, BLOCK_ID, MOLFORM, ATOMLIST,
 // BONDLIST, CHARGE, RADICAL, STEREOCENTER, STEREOPAIR, END"), and document 02, L4 (STEREOMOLECULE "after STEREOPAIR").
+#![tactic(auto)]
+
 ghost use Rattle.std.specs.Prelude.{◌≤◌, ◌<◌, length};
 ghost use Rattle.printing.specs.Printing.{Untouched};
 ghost use Rattle.form.specs.Forms.{FormLaid};

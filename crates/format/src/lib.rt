@@ -1,11 +1,13 @@
 // The structure table's type: document 01, "The structure table". Every limit of the format is a constant of it, and beside them stand the functions that
 // give each record's place. What the numbers mean is in specs/; no parsing here.
+#![tactic(auto)]
+
 ghost use Rattle.std.specs.Prelude.{◌≡◌};
 ghost use Rattle.format.specs.Labels.{Bonds, Charges, Radicals, Centres, Pairs};
 ghost use Rattle.format.specs.Table.{text_place, atom_place, row_place};
 
 // "3,856 signed 32-bit numbers": the caller lends them, so the type holds nothing of its own.
-#[derive(Drop)]
+#[derive(Clone, Copy)]
 pub struct Table;
 
 impl Table {

@@ -6,21 +6,21 @@ use alphabet::{is_digit, is_gap, is_lower, is_upper};
 use symbols::Mark;
 
 // A symbol and the place behind it.
-#[derive(Drop)]
+#[derive(Clone, Copy)]
 pub enum LettersAt {
     Letters(Mark, usize),
     Not,
 }
 
 // A count and the place behind its gap.
-#[derive(Drop)]
+#[derive(Clone, Copy)]
 pub enum CountAt {
     Count(u32, usize),
     Not,
 }
 
 // An entry's symbol and count, and the place behind its gap; or no quick entry.
-#[derive(Drop)]
+#[derive(Clone, Copy)]
 pub enum QuickEntry {
     Entry(Mark, u32, usize),
     Not,

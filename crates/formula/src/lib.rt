@@ -1,4 +1,6 @@
 // The formula's machine, a byte a step, and what it says of a whole value: document 01, "Rows", MOLFORM.
+#![tactic(auto)]
+
 pub mod entry; // entry.rt: entries as programs write them
 
 ghost use Rattle.std.specs.Prelude.{◌≡◌, true, ◌+◌, ◌-◌, ◌*◌, ◌^◌, ◌<◌, ◌≤◌};
@@ -12,7 +14,7 @@ use symbols::Mark;
 
 // Where the machine stands: no shape any more, between entries (whether the fragment has one yet), after `^`, in a mass (its digits so far, its value), after
 // one letter, after two, after `/`, in a count.
-#[derive(Drop)]
+#[derive(Clone, Copy)]
 pub enum State {
     Dead,
     Between(bool),
@@ -25,14 +27,14 @@ pub enum State {
 }
 
 // A byte's step: the state behind it, and the entry that it ends, if it ends one.
-#[derive(Drop)]
+#[derive(Clone, Copy)]
 pub enum Move {
     Still(State),
     Tells(Mark, u32, State),
 }
 
 // The end of a value: no shape, no entry open, or the entry that ends there.
-#[derive(Drop)]
+#[derive(Clone, Copy)]
 pub enum Close {
     Unshaped,
     Nothing,

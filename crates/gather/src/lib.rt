@@ -1,4 +1,6 @@
 // One line of a list among the rows that are there: document 01, "Rows". The scratch lent has a region for each list, sorted or as the rows came.
+#![tactic(auto)]
+
 pub mod progress; // progress.rt: what is known before a line
 mod runs; // runs.rt: quick rows one behind the other
 mod turns; // turns.rt: a line in its list's region of the scratch
@@ -41,7 +43,7 @@ pub fn list_turn(
 }
 
 // The first line that a run did not gather, and what is known before it.
-#[derive(Drop)]
+#[derive(Clone, Copy)]
 pub struct Ran {
     pub place: usize,
     pub known: Progress,

@@ -1,7 +1,7 @@
 // What is known before a line, but for what stands in the scratch: the record that runs, where the texts and the formula stand, how many rows each list has.
 
 // A part of the block.
-#[derive(Drop)]
+#[derive(Clone, Copy)]
 pub struct Part {
     pub from: usize,
     pub to: usize,
@@ -9,7 +9,7 @@ pub struct Part {
 
 // `running` is the code of the running record's label (0: skipped), `top` the highest beginning of an interval among the labels seen (0: none was seen). `handed` is
 // whether the YES of STEREOMOLECULE stands.
-#[derive(Drop)]
+#[derive(Clone, Copy)]
 pub struct Progress {
     pub running: u32,
     pub top: u32,
@@ -28,7 +28,7 @@ pub struct Progress {
 }
 
 // A line's turn: what is known behind it, or the refusal's number and the place of its line.
-#[derive(Drop)]
+#[derive(Clone, Copy)]
 pub enum Turn {
     Go(Progress),
     Stop(u32, usize),

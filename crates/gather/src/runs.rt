@@ -13,7 +13,7 @@ use sorted::keyed::bond_joined;
 use sorted::scratch::Scratch;
 
 // The first line that was not gathered, and how many rows the list has before it.
-#[derive(Drop)]
+#[derive(Clone, Copy)]
 pub struct Run {
     pub place: usize,
     pub count: usize,

@@ -12,7 +12,7 @@ use sorted::keyed::is_bare;
 use sorted::scratch::Scratch;
 
 // What a line leaves: the region is kept up to it, or the refusal's number and place.
-#[derive(Drop)]
+#[derive(Clone, Copy)]
 pub enum Noted {
     Kept,
     Refused(u32, usize),

@@ -1,4 +1,6 @@
 // The lowest atom of each atom's group: document 02, L1, "each group of atoms joined by S, D, T or Q bonds, `A` not counting". No fragment is written here.
+#![tactic(auto)]
+
 ghost use Rattle.std.specs.Prelude.{◌≡◌, ◌≤◌, ◌<◌, length, drop};
 ghost use Rattle.lists.specs.Lists.{rows_from};
 ghost use Rattle.format.specs.Table.{bond_at};

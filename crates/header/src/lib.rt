@@ -1,5 +1,7 @@
 // The table's first sixteen numbers: document 01, "The structure table" ("atoms, bonds, charge rows, radical rows, centres, pairs, block id (0 none)"; "start and
 // length in the block of title, origin, owner (empty: 0, 0)"; "13 to 15 are 0"); document 02, L4 ("Table number 13 becomes 1").
+#![tactic(auto)]
+
 pub mod guard; // guard.rt: whether progress is one that a reading leaves
 
 ghost use Rattle.std.specs.Prelude.{◌≡◌, [], ◌∷◌, ◌+◌, ◌≤◌, length};

@@ -1,5 +1,7 @@
 // The C door: document 01, "The C host calls a check of one block". Every function answers for every input; include/galebonnet.h says each answer in words. No
 // rule of the format stands here. A `&[u8]` lies in the call as a pointer and a count.
+#![tactic(auto)]
+
 ghost use Rattle.std.specs.Prelude.{◌≡◌};
 ghost use Rattle.format.specs.Table.{lent, read_result};
 ghost use Rattle.format.specs.Walking.{check_of, packed_result, walk_at};

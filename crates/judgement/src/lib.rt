@@ -1,4 +1,6 @@
 // Judging a block, its lines in turn: document 01, "Lines and labels", "Rows", "Refusal numbers".
+#![tactic(auto)]
+
 mod line; // line.rt: one line of a block
 pub mod rules; // rules.rt: what a reading goes by
 mod seen; // seen.rt: the labels seen so far and their order
@@ -20,7 +22,7 @@ use lines::{Looked, clean_end};
 use sorted::scratch::Scratch;
 
 // A block's judgement: what is known at its end, or the refusal's number and place.
-#[derive(Drop)]
+#[derive(Clone, Copy)]
 pub enum Judged {
     Accepted(Progress),
     Refused(u32, usize),

@@ -1,7 +1,7 @@
 // What a reading goes by.
 
 // How many elements are known, and whether the formula's totals are tested at END.
-#[derive(Drop)]
+#[derive(Clone, Copy)]
 pub struct Rules {
     pub last: u32,
     pub totals: bool,

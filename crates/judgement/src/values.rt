@@ -47,7 +47,7 @@ pub fn is_yes(line: &[u8]) -> bool
 }
 
 // A block id, or the refusal's number.
-#[derive(Drop)]
+#[derive(Clone, Copy)]
 pub enum BlockId {
     Value(u32),
     Stop(u32),

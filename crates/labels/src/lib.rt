@@ -1,5 +1,7 @@
 // Label lines: document 01, "Lines and labels"; document 02, L4 (STEREOMOLECULE). The label is compared where it stands, in one pass to its `=`: its letters are read
 // into a key, five bits a letter.
+#![tactic(auto)]
+
 ghost use Rattle.std.specs.Prelude.{◌≡◌, [], ◌∷◌, ◌<◌};
 ghost use Rattle.format.specs.Bytes.{is_in};
 ghost use Rattle.format.specs.Labels.{title_line};
@@ -7,7 +9,7 @@ ghost use Rattle.labels.specs.Keys.{longer, grown, next_key, place_of_key, keys}
 ghost use Rattle.labels.specs.ShownLines.{ShowsLine};
 
 // What a line is: no label line, a label line without `=`, or its label's code (0: skipped) and where the value starts.
-#[derive(Drop)]
+#[derive(Clone, Copy)]
 pub enum LineKind {
     Plain,
     Unparted,

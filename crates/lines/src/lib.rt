@@ -1,4 +1,6 @@
 // Lines of a block, and what one line holds: document 01, "Lines and labels" ("A line ends with a line feed (10) or with the input", "Allowed bytes", comments).
+#![tactic(auto)]
+
 mod plain; // plain.rt: bytes from 32 to 126, eight at a time
 
 ghost use Rattle.std.specs.Prelude.{◌≡◌, ◌<◌, length, drop};
@@ -10,7 +12,7 @@ ghost use Rattle.lines.specs.Looks.{ShowsLooked};
 use crate::plain::plain_to;
 
 // Where a line of allowed bytes ends; or that a byte of it is not allowed.
-#[derive(Drop)]
+#[derive(Clone, Copy)]
 pub enum Looked {
     End(usize),
     Wrong,

@@ -1,4 +1,6 @@
 // The refusal of MOLFORM's value: document 01, "Rows", MOLFORM; "Refusal numbers".
+#![tactic(auto)]
+
 ghost use Rattle.std.specs.Prelude.{◌≡◌, [], ◌∷◌};
 ghost use Rattle.format.specs.Formula.{counted, finish, formula_shape};
 ghost use Rattle.symbols.specs.ShownSymbols.{sym_of_mark};
@@ -12,14 +14,14 @@ use formula::{Close, Move, State, formula_end, formula_step};
 use symbols::Mark;
 
 // The machine's state, and the lowest refusal of the entries told so far (0 none).
-#[derive(Drop)]
+#[derive(Clone, Copy)]
 pub struct Pass {
     pub state: State,
     pub held: u32,
 }
 
 // How far the quick entries from the value's start reach: the place behind them, whether the fragment has an entry there, and their lowest refusal (0 none).
-#[derive(Drop)]
+#[derive(Clone, Copy)]
 pub struct Lead {
     pub held: u32,
     pub begun: bool,

@@ -1,5 +1,7 @@
 // Charge and radical rows renumbered at END: "Charge and radical rows ascend by lowest atom, the row without atoms last" (document 01, "The structure table"). One pass
 // over the atoms: a row gets its number when its first atom is met.
+#![tactic(auto)]
+
 ghost use Rattle.std.specs.Prelude.{◌≡◌, Bool, List, [], map, ◌+◌, ◌≤◌, length};
 ghost use Rattle.lists.specs.Lists.{filled};
 ghost use Rattle.lists.specs.Order.{sort};

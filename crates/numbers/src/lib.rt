@@ -1,18 +1,20 @@
 // Numbers that a word says: document 01, "Rows".
+#![tactic(auto)]
+
 ghost use Rattle.std.specs.Prelude.{◌≡◌, ◌≤◌, ◌^◌};
 ghost use Rattle.format.specs.Rows.{digit, digits_of, number, signed};
 ghost use Rattle.alphabet.specs.Runs.{RunEnd};
 ghost use Rattle.numbers.specs.ShownNumbers.{Shows, ShowsSigned, plus_of, minus_of};
 
 // A number, or no shape of one.
-#[derive(Drop)]
+#[derive(Clone, Copy)]
 pub enum Numeral {
     Value(u32),
     Wrong,
 }
 
 // A number with its sign, or no shape of one.
-#[derive(Drop)]
+#[derive(Clone, Copy)]
 pub enum SignedNumeral {
     Plus(u32),
     Minus(u32),

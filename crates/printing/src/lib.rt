@@ -1,5 +1,7 @@
 // Bytes, texts and numbers printed into a lent buffer: document 01, "The one written form". Every printer answers the place behind what it printed; what has no
 // place in the buffer is counted and not laid.
+#![tactic(auto)]
+
 ghost use Rattle.std.specs.Prelude.{◌≡◌, [], ◌∷◌, ◌+◌, ◌-◌, ◌≤◌, ◌<◌, length, set};
 ghost use Rattle.format.specs.Writing.{digits_in, digits, unless_zero};
 ghost use Rattle.printing.specs.Printing.{next_place, over, Laid, spaced};

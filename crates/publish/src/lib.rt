@@ -1,5 +1,7 @@
 // An accepted block's structure in the lent table: document 01, "The structure table" ("3,856 signed 32-bit numbers; unused ones are 0"). Every one of the 3,856
 // numbers is put there, whatever stood there before; those beyond stay.
+#![tactic(auto)]
+
 ghost use Rattle.std.specs.Prelude.{◌≡◌, ◌++◌, map, ℕ, ◌≤◌, length, drop};
 ghost use Rattle.format.specs.Reading.{State, finished, span_of};
 ghost use Rattle.format.specs.Table.{encode};

@@ -6,7 +6,7 @@ use alphabet::{is_lower, is_upper};
 use symbols::Mark;
 
 // An atom's number, its symbol, its implied hydrogens and the next line's place; or no quick row.
-#[derive(Drop)]
+#[derive(Clone, Copy)]
 pub enum QuickAtom {
     Values(u32, Mark, u32, usize),
     Not,

@@ -5,7 +5,7 @@ ghost use Rattle.quick.specs.Quick.{ShowsBond};
 use crate::parts::{EndAt, NumberAt, end_at, number_at};
 
 // Two atoms, the kind, 1 to 5 for S, D, T, Q, A, and the next line's place; or no quick row.
-#[derive(Drop)]
+#[derive(Clone, Copy)]
 pub enum QuickBond {
     Values(u32, u32, u32, usize),
     Not,

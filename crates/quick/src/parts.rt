@@ -8,35 +8,35 @@ use alphabet::is_digit;
 use rows::xyz::LIFT;
 
 // A number and the place behind its space.
-#[derive(Drop)]
+#[derive(Clone, Copy)]
 pub enum NumberAt {
     Number(u32, usize),
     Not,
 }
 
 // The next line's place.
-#[derive(Drop)]
+#[derive(Clone, Copy)]
 pub enum EndAt {
     Next(usize),
     Not,
 }
 
 // The implied hydrogens and the next line's place.
-#[derive(Drop)]
+#[derive(Clone, Copy)]
 pub enum Tail {
     Ends(u32, usize),
     Not,
 }
 
 // What digits say, and the place behind them.
-#[derive(Drop)]
+#[derive(Clone, Copy)]
 pub struct Digits {
     pub value: u32,
     pub to: usize,
 }
 
 // A signed number, 1,000,000 above it, and the place behind it or behind its space.
-#[derive(Drop)]
+#[derive(Clone, Copy)]
 pub enum SignedAt {
     Number(u32, usize),
     Not,

@@ -4,7 +4,7 @@ ghost use Rattle.quick.specs.Quick.{ShowsXyz};
 use crate::parts::{EndAt, NumberAt, SignedAt, end_at, number_at, signed_at, spaced_at};
 
 // An atom, its three numbers, each 1,000,000 above what the row says, and the next line's place; or no quick row.
-#[derive(Drop)]
+#[derive(Clone, Copy)]
 pub enum QuickXyz {
     Values(u32, u32, u32, u32, usize),
     Not,

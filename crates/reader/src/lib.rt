@@ -1,4 +1,6 @@
 // Reading one block into a table and its positions: document 01, "The structure table", "Refusal numbers"; document 02, L2.
+#![tactic(auto)]
+
 ghost use Rattle.std.specs.Prelude.{◌≡◌, ◌++◌, ◌≤◌, length, drop};
 ghost use Rattle.format.specs.Table.{zeros, noughts, lent, short, read_result};
 ghost use Rattle.format.specs.Walking.{packed, check_of};
@@ -17,7 +19,7 @@ use judgement::rules::Rules;
 use sorted::scratch::Scratch;
 
 // "Accepted is 0, place 0", or the refusal's number and place.
-#[derive(Drop)]
+#[derive(Clone, Copy)]
 pub enum Answer {
     Accepted,
     Refused(u32, usize),

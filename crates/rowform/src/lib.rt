@@ -1,5 +1,7 @@
 // The written form of one row: document 01, "The one written form" ("One line feed a line, one space between fields"). An atom or a row that no list holds, and
 // a table that is too short, print nothing: the buffer stays, and the answer is the place that was given.
+#![tactic(auto)]
+
 ghost use Rattle.std.specs.Prelude.{[], ◌∷◌, ◌++◌, ◌≤◌, ◌<◌, length};
 ghost use Rattle.format.specs.Writing.{digits};
 ghost use Rattle.printing.specs.Printing.{Laid, Untouched};
@@ -14,7 +16,7 @@ use spelling::put_symbol;
 mod rows; // rows.rt: a row of each list
 
 // The lists that have rows.
-#[derive(Drop)]
+#[derive(Clone, Copy)]
 pub enum Listed {
     Bond,
     Charge,

@@ -9,7 +9,7 @@ use numbers::Numeral;
 use symbols::{Mark, Spelling, symbol};
 
 // An atom's number, its symbol and its implied hydrogens, or the refusal's number.
-#[derive(Drop)]
+#[derive(Clone, Copy)]
 pub enum AtomRow {
     Values(u32, Mark, u32),
     Refused(u32),

@@ -10,7 +10,7 @@ use numbers::Numeral;
 use symbols::groups::bond_kind;
 
 // Two atoms and the kind, 1 to 5 for S, D, T, Q, A, or the refusal's number.
-#[derive(Drop)]
+#[derive(Clone, Copy)]
 pub enum BondRow {
     Values(u32, u32, u32),
     Refused(u32),

@@ -1,4 +1,6 @@
 // Rows: one reader a row kind, a slice in, its values or a refusal with its number out. No table here.
+#![tactic(auto)]
+
 pub mod atom; // atom.rt: a row of ATOMLIST
 pub mod bond; // bond.rt: a row of BONDLIST
 pub mod centre; // centre.rt: a row of STEREOCENTER

@@ -10,7 +10,7 @@ use numbers::Numeral;
 use symbols::groups::pair_hand;
 
 // Two atoms, 0, 1 for P or 2 for M, and the group's byte (0 for `0`), or the refusal's number.
-#[derive(Drop)]
+#[derive(Clone, Copy)]
 pub enum PairRow {
     Values(u32, u32, u32, u32),
     Refused(u32),

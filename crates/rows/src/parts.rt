@@ -14,21 +14,21 @@ use symbols::groups::group;
 pub const WRONG_SHAPE: u32 = 9;
 
 // An atom's number and where its field ends, or no shape of one.
-#[derive(Drop)]
+#[derive(Clone, Copy)]
 pub enum AtomAt {
     Atom(u32, usize),
     Wrong,
 }
 
 // Two atoms' numbers and where the second one's field ends, or no shape of them.
-#[derive(Drop)]
+#[derive(Clone, Copy)]
 pub enum TwoAtoms {
     Both(u32, u32, usize),
     Wrong,
 }
 
 // The fields that are left: none, one and its ends, or more.
-#[derive(Drop)]
+#[derive(Clone, Copy)]
 pub enum OnlyField {
     Absent,
     One(usize, usize),

@@ -9,14 +9,14 @@ use fields::next_field;
 use numbers::{SignedNumeral, signed};
 
 // An atom and its three numbers, each 1,000,000 above what the row says, or the refusal's number.
-#[derive(Drop)]
+#[derive(Clone, Copy)]
 pub enum XyzRow {
     Values(u32, u32, u32, u32),
     Refused(u32),
 }
 
 // A signed number, 1,000,000 above it, and where its field ends, or no shape of one.
-#[derive(Drop)]
+#[derive(Clone, Copy)]
 pub enum LiftedAt {
     Number(u32, usize),
     Wrong,

@@ -3,14 +3,14 @@ ghost use Rattle.std.specs.Prelude.{◌≡◌};
 ghost use Rattle.sorted.specs.Keyed.{on_line};
 
 // Of a row whose values are in hand: how many rows the list has now, or the refusal's number.
-#[derive(Drop)]
+#[derive(Clone, Copy)]
 pub enum RowAfter {
     Kept(usize),
     Stop(u32),
 }
 
 // Of a line: the same, the refusal's number handed on with the place of the line.
-#[derive(Drop)]
+#[derive(Clone, Copy)]
 pub enum LineAfter {
     Kept(usize),
     Refused(u32, usize),

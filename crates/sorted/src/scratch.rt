@@ -2,7 +2,7 @@
 use format::Table;
 
 // Natural numbers that a reading lends; the type holds nothing of its own.
-#[derive(Drop)]
+#[derive(Clone, Copy)]
 pub struct Scratch;
 
 impl Scratch {

@@ -14,7 +14,7 @@ use format::Table;
 const KEY: u32 = 1024;
 
 // The lists that stand by their atoms.
-#[derive(Drop)]
+#[derive(Clone, Copy)]
 pub enum Ordered {
     Bond,
     Centre,
@@ -22,7 +22,7 @@ pub enum Ordered {
 }
 
 // A list, and what a record of it has: how many atoms are its members, its value's range, whether a group follows.
-#[derive(Drop)]
+#[derive(Clone, Copy)]
 pub struct Shape {
     pub list: Ordered,
     pub members: usize,

@@ -1,5 +1,7 @@
 // Whether a table is sound: document 01, "Refusal numbers" ("21, the table isn't sound (no atom, or a count, range, order, clash or zero rule broken, or a text out of
 // bounds, untrimmed, with a byte not allowed, or with `##` right after a line feed)").
+#![tactic(auto)]
+
 ghost use Rattle.std.specs.Prelude.{◌≡◌, ◌&&◌, length, leb};
 ghost use Rattle.format.specs.Table.{sound};
 

@@ -1,4 +1,6 @@
 // An element and its mass as a symbol: document 01, "The one written form" ("D and T for hydrogen 2 and 3, .. in the atom list too").
+#![tactic(auto)]
+
 ghost use Rattle.std.specs.Prelude.{◌≡◌, not, eqb, get_or};
 ghost use Rattle.format.specs.Structure.{isotope_of};
 ghost use Rattle.format.specs.Writing.{symbol_of, spelt, print_mass, print_sym};
@@ -9,7 +11,7 @@ ghost use Rattle.spelling.specs.Words.{word_of};
 use printing::{put, put_number};
 
 // The letters of a symbol; the second is 0 where it has one letter.
-#[derive(Drop)]
+#[derive(Clone, Copy)]
 struct Letters {
     first: u8,
     second: u8,

@@ -2,6 +2,8 @@
 // to 15, then the same." One code for both; `signed` tells CHARGE. A row has any number of fields, so that its line is passed over for each test and no field is kept.
 // "A row is answered as its values or a refusal with its reason": the line's reader takes the answer apart and hands a refusal on with the line's place.
 // What no reading lends, another length or a count over its limit, is answered 0, and nothing is touched.
+#![tactic(auto)]
+
 ghost use Rattle.std.specs.Prelude.{◌≡◌, Bool, true, false, List, ℕ, ◌≤◌, ◌<◌, ℤ, length, drop};
 ghost use Rattle.std.proofs.Math.Option.{some};
 ghost use Rattle.lists.specs.Lists.{all};
@@ -23,21 +25,21 @@ use sorted::keyed::region_fits;
 use sorted::scratch::Scratch;
 
 // The first field: its value as value + 100, 0 where it is beyond its range; or no number.
-#[derive(Drop)]
+#[derive(Clone, Copy)]
 pub enum SpreadValue {
     Coded(u32),
     Wrong,
 }
 
 // A row: its value as value + 100 and where its members start, or the refusal's number: 9 no shape, 10 a value beyond its range.
-#[derive(Drop)]
+#[derive(Clone, Copy)]
 pub enum SpreadRow {
     Values(u32, usize),
     Refused(u32),
 }
 
 // The next field: none, no number, or a number and where it ends.
-#[derive(Drop)]
+#[derive(Clone, Copy)]
 pub enum Member {
     None,
     Wrong,

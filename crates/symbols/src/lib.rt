@@ -1,4 +1,6 @@
 // A symbol: document 01, "Rows" ("A symbol is an upper-case letter and at most one lower-case letter, before it optionally `^` and 1 to 3 digits").
+#![tactic(auto)]
+
 pub mod groups; // groups.rt: words of one letter
 
 ghost use Rattle.std.specs.Prelude.{◌≡◌};
@@ -8,7 +10,7 @@ ghost use Rattle.symbols.specs.ShownSymbols.{shown_symbol, ShowsSymbol};
 use numbers::Numeral;
 
 // A symbol's caret, its mass (0 where there is none) and its letters; the second is 0 where there is one letter.
-#[derive(Drop)]
+#[derive(Clone, Copy)]
 pub struct Mark {
     pub caret: bool,
     pub mass: u32,
@@ -17,7 +19,7 @@ pub struct Mark {
 }
 
 // A symbol, or no shape of one.
-#[derive(Drop)]
+#[derive(Clone, Copy)]
 pub enum Spelling {
     Spelt(Mark),
     Wrong,

@@ -1,6 +1,8 @@
 // The formula's entries, gathered in one pass over the atoms of a table: document 01, "The one written form", and document 02, L1 ("one fragment for each group of
 // atoms"). Each kind of atom has a key that orders it as the formula does, groups first; a group's implied hydrogens are summed beside while its atoms follow one
 // another and counted when they end, "as hydrogen without mass".
+#![tactic(auto)]
+
 ghost use Rattle.std.specs.Prelude.{◌≡◌, ℕ, ◌+◌, ◌<◌, ◌≤◌, length, get_or, eqb};
 ghost use Rattle.lists.specs.Lists.{share};
 ghost use Rattle.tally.specs.Ranks.{key_or};

@@ -1,4 +1,6 @@
 // The texts that a table names: document 01, "Refusal numbers" ("a text out of bounds, untrimmed, with a byte not allowed, or with `##` right after a line feed").
+#![tactic(auto)]
+
 ghost use Rattle.std.specs.Prelude.{◌≡◌, not, ◌&&◌, ◌<◌, ◌≤◌, length, get_or, drop};
 ghost use Rattle.lists.specs.Lists.{all};
 ghost use Rattle.format.specs.Bytes.{allowed};

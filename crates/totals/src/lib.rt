@@ -1,6 +1,8 @@
 // The formula against the atoms: document 01, "At END, for every element and mass, the formula's total over all fragments equals the atoms listed, with implied
 // hydrogens counted as hydrogen without mass." The atoms are tallied, each entry of the formula is taken from the tally, and nothing may be left. Atoms without
 // mass are counted by element; each atom with a mass has a cell of two lists, its element and its mass.
+#![tactic(auto)]
+
 ghost use Rattle.std.specs.Prelude.{◌≡◌, true, false, ◌&&◌, List, [], ℕ, ◌+◌, ◌<◌, ◌≤◌, length, get_or, set, drop};
 ghost use Rattle.lists.specs.Lists.{all};
 ghost use Rattle.format.specs.Formula.{finish, formula_shape};
@@ -20,14 +22,14 @@ use sorted::scratch::Scratch;
 use symbols::Mark;
 
 // The machine behind a byte, the entry taken that ended there; or that an entry asks for more than is left.
-#[derive(Drop)]
+#[derive(Clone, Copy)]
 pub enum Taken {
     On(State),
     Short,
 }
 
 // How far the quick entries from the formula's start reach, each taken: whether the fragment has an entry there, and the place; or that one asks for more than is left.
-#[derive(Drop)]
+#[derive(Clone, Copy)]
 pub enum Lead {
     To(bool, usize),
     Short,

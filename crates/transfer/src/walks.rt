@@ -9,7 +9,7 @@ use format::Table;
 use labels::LineKind;
 
 // What the walk finds: a block or a stray run, each from its first byte up to a place, or the end of the file, or a refusal.
-#[derive(Drop)]
+#[derive(Clone, Copy)]
 pub enum Walked {
     Block(usize, usize),
     Stray(usize, usize),

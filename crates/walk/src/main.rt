@@ -1,5 +1,7 @@
 // The program `walk`: document 01, "Walking a transfer file". It prints for a block `B start end number place atoms bonds`, the place counted in the file, and for
 // a stray run `S start end`; `L` where there are over 65,536 bytes. The work is done by `transfer` and `reader`; this is the printing.
+#![tactic(auto)]
+
 ghost use Rattle.std.specs.Prelude.{◌≤◌, ◌<◌, ◌≡◌, length};
 
 use coordinates::table::Positions;

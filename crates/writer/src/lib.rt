@@ -1,5 +1,7 @@
 // Writing a table as the one written form: document 01, "The one written form" and the writing part of "Refusal numbers". A form is measured before the first byte
 // is laid in the buffer, so that a refusal leaves the buffer alone.
+#![tactic(auto)]
+
 ghost use Rattle.std.specs.Prelude.{◌≡◌, ◌≤◌, length};
 ghost use Rattle.format.specs.Writing.{write_result};
 ghost use Rattle.writer.specs.Answers.{shown, SoundWritten, GroupsGathered};
@@ -15,7 +17,7 @@ use tally::{ENTRIES, gather};
 const DRAFT: usize = 4096;
 
 // How many bytes were written, or the refusal's number: 1, 21, 23, 22.
-#[derive(Drop)]
+#[derive(Clone, Copy)]
 pub enum Answer {
     Written(usize),
     Refused(u32),
