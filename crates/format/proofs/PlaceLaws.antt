@@ -64,7 +64,11 @@ module _ (i : ℕ) where
 -- THE ROWS of a list
 pub end_within : (l : ListOf) → base l + width l * most l ≤ 3856
 unfolding base width most
-end_within l = elim l [ Bonds ↦ omega arith | Charges ↦ omega arith | Radicals ↦ omega arith | Centres ↦ omega arith | Pairs ↦ omega arith ]
+end_within Bonds = omega arith
+end_within Charges = omega arith
+end_within Radicals = omega arith
+end_within Centres = omega arith
+end_within Pairs = omega arith
 
 module _ (l : ListOf) (i : ℕ) where
   pub row_place_lem : i < most l → row_place l i ≡ base l + width l * i

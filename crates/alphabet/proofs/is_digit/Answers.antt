@@ -1,0 +1,12 @@
+-- `alphabet::is_digit` meets its contract. Assumes nothing.
+use Rattle.format.specs.Bytes.{within}
+use borrow.Author.Tests.{le-leb, lt-leb}
+use Rattle.alphabet.proofs.is_digit.Goals as goal
+
+pub returns-then-b-ge48 : goal.returns-then-b-ge48
+unfolding within
+returns-then-b-ge48 c = simp (le-leb _ _ c.if-b-ge48.true)
+
+pub returns-else-b-ge48 : goal.returns-else-b-ge48
+unfolding within
+returns-else-b-ge48 c = simp (lt-leb _ _ c.if-b-ge48.false)

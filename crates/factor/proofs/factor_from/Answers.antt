@@ -1,0 +1,10 @@
+-- `factor::factor_from` meets its contract. Assumes nothing.
+use Rattle.factor.proofs.FactorLaws.{digits_exact, from_is}
+use borrow.Author.Rules.{rules}
+use Rattle.factor.proofs.factor_from.Goals as goal
+
+pub quotient-value-requires : goal.quotient-value-requires
+quotient-value-requires c = digits_exact _ c.ranges.digits.fits
+
+pub returns : goal.returns
+returns c = from_is _ _ _ c.ranges.digits.fits c.quotient-value.ensures

@@ -1,0 +1,37 @@
+-- `factor::factor_of` meets its contract. Assumes nothing.
+use Prim.Native.Nat.{ℕ, ◌-◌, ◌≤◌}
+use mathlib.Core.Path.{◌≡◌, sym, ap, ◌∙◌}
+use mathlib.Core.Option.{some}
+use mathlib.Core.List.{List}
+use native.Mathlib.Omega.{arith}
+use lib.ListN.{length}
+use Rattle.format.specs.Rows.{digits_of}
+use Rattle.numbers.specs.ShownNumbers.{shown_number}
+use Rattle.factor.specs.ShownFactors.{unpointed_of}
+use Rattle.factor.proofs.PartLaws.{few_decimals}
+use Rattle.factor.proofs.FactorLaws.{no_factor, zero_factor, some_factor}
+use borrow.Author.Rules.{rules}
+use Rattle.factor.proofs.factor_of.Goals as goal
+use Rattle.factor.proofs.factor_of.Lts as lts
+
+-- the word, and the digits that were told
+abbrev word_of : lts.In-Value → List ℕ
+word_of c = c.args.word.now
+
+digits_are : (c : lts.In-Value) → digits_of 9 (unpointed_of (word_of c)) ≡ some c.in-Value.digits
+digits_are c = sym c.digits_of.ensures.is ∙ ap shown_number c.in-Value.is
+
+few : (c : lts.In-Value) → length (word_of c) - c.parts_of-parts.result.behind ≤ 9
+few c = few_decimals _ _ c.parts_of-parts.ensures _ (digits_are c)
+
+pub returns-in_default : goal.returns-in_default
+returns-in_default c = no_factor _ (sym c.digits_of.ensures.is ∙ ap shown_number c.in_default.is)
+
+pub returns-then-digits-eq0 : goal.returns-then-digits-eq0
+returns-then-digits-eq0 c = zero_factor _ _ (digits_are c.before) c.if-digits-eq0.true
+
+pub overflow_cast-decimals : goal.overflow_cast-decimals
+overflow_cast-decimals c = record { fits = omega (arith, few c.before.before) }
+
+pub returns : goal.returns
+returns c = some_factor _ _ (digits_are c.before.before.before) c.if-digits-eq0.false _ c.parts_of-parts.ensures.left (c.digits_of.ensures.small _ c.in-Value.is) (few c.before.before.before) _ c.factor_from.ensures

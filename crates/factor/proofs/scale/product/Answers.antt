@@ -1,0 +1,13 @@
+-- `factor::scale::product` meets its contract. Assumes nothing.
+use Rattle.factor.proofs.QuotientLaws.{lowered_held, product_held, product_read}
+use borrow.Author.Rules.{rules}
+use Rattle.factor.proofs.scale.product.Goals as goal
+
+pub overflow_sub-result : goal.overflow_sub-result
+overflow_sub-result c = lowered_held _ c.requires
+
+pub overflow_mul-result : goal.overflow_mul-result
+overflow_mul-result c = product_held _ c.requires _ c.ranges.digits.fits
+
+pub returns : goal.returns
+returns c = product_read _ c.requires _ c.ranges.digits.fits

@@ -1,0 +1,7 @@
+-- `fields::next_field` meets its contract. Assumes nothing.
+use Rattle.fields.proofs.NextFieldLaws.{next_is}
+use borrow.Author.Rules.{rules}
+use Rattle.fields.proofs.next_field.Goals as goal
+
+pub returns : goal.returns
+returns c = next_is _ _ _ c.gap_end-from.ensures.is c.ink_end-to.ensures.is

@@ -1,0 +1,7 @@
+-- `form::formula::put_next` meets its contract. Assumes nothing.
+use Rattle.printing.proofs.PrintLaws.{laid_then}
+use borrow.Author.Rules.{rules}
+use Rattle.form.proofs.formula.put_next.Goals as goal
+
+pub returns : goal.returns
+returns c = laid_then c.put_parted-behind.ensures c.put_entry.ensures

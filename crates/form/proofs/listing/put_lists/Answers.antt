@@ -1,0 +1,7 @@
+-- `form::listing::put_lists` meets its contract. Assumes nothing.
+use Rattle.form.proofs.ListingLaws.{lists_laid}
+use borrow.Author.Rules.{rules}
+use Rattle.form.proofs.listing.put_lists.Goals as goal
+
+pub returns : goal.returns
+returns c = lists_laid c.args.table.now c.put_list-bonds.ensures c.put_list-charges.ensures c.put_list-radicals.ensures c.put_list-centres.ensures c.put_list.ensures

@@ -1,0 +1,17 @@
+-- `gather::runs::atom_run` meets its contract. Assumes nothing.
+use Prim.Native.Nat.{◌-◌}
+use mathlib.Core.Path.{◌≡◌, sym, ◌∙◌}
+use native.Mathlib.Omega.{arith}
+use borrow.Author.Rules.{rules}
+use lib.ListN.{length}
+use Rattle.quick.proofs.RowLaws.{atom_told}
+use Rattle.gather.specs.Runs.{AtomsRan}
+use Rattle.gather.proofs.TurnLaws.{part_long, put_long}
+use Rattle.gather.proofs.RunLaws.{atoms_start, atoms_more}
+use Rattle.gather.proofs.runs.atom_run.Given as goal
+
+abbrev pub invariant-loop-count : goal.invariant-loop-count
+invariant-loop-count l = (length l.scratch ≡ 2973) × AtomsRan l.last l.block l.at l.atoms l.initial.scratch l.scratch (record { l.place = l.place; l.count = l.count })
+
+abbrev pub decreases-loop-count : goal.decreases-loop-count
+decreases-loop-count l = 256 - l.count

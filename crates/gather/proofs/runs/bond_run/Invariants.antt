@@ -1,0 +1,17 @@
+-- `gather::runs::bond_run` meets its contract. Assumes nothing.
+use Prim.Native.Nat.{◌-◌, ◌≤◌}
+use mathlib.Core.Path.{◌≡◌, sym, ◌∙◌}
+use native.Mathlib.Omega.{arith}
+use borrow.Author.Rules.{rules}
+use lib.ListN.{length}
+use Rattle.quick.specs.Quick.{BondIs}
+use Rattle.quick.proofs.RowLaws.{bond_told}
+use Rattle.gather.specs.Runs.{BondsRan}
+use Rattle.gather.proofs.RunLaws.{bonds_start, bonds_more, bonds_long, bonds_put, bonds_stay}
+use Rattle.gather.proofs.runs.bond_run.Given as goal
+
+abbrev pub invariant-loop-place : goal.invariant-loop-place
+invariant-loop-place l = (length l.scratch ≡ 2973) × (l.count ≤ 512) × BondsRan l.block l.at l.atoms l.bonds l.initial.scratch l.scratch (record { l.place = l.place; l.count = l.count })
+
+abbrev pub decreases-loop-place : goal.decreases-loop-place
+decreases-loop-place l = length l.block - l.place

@@ -1,0 +1,13 @@
+-- `geometry::run::xyz_run` meets its contract. Assumes nothing.
+use Rattle.std.proofs.Common.{◌≡◌, ◌-◌, length, arith, rules}
+use Rattle.quick.specs.Quick.{XyzAt}
+use Rattle.quick.proofs.RowLaws.{xyz_told}
+use Rattle.geometry.specs.XyzRuns.{XyzRan}
+use Rattle.geometry.proofs.RunLaws.{xyz_start, xyz_more}
+use Rattle.geometry.proofs.run.xyz_run.Given as goal
+
+abbrev pub invariant-loop-place : goal.invariant-loop-place
+invariant-loop-place l = (length l.region ≡ 9) × XyzRan l.block l.at l.atoms l.initial.region l.region l.initial.store l.store l.place
+
+abbrev pub decreases-loop-place : goal.decreases-loop-place
+decreases-loop-place l = length l.block - l.place

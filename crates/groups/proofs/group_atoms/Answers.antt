@@ -1,0 +1,12 @@
+-- `groups::group_atoms` meets its contract. Assumes nothing.
+use mathlib.Core.Path.{refl}
+use native.Mathlib.Omega.{arith}
+use Rattle.groups.proofs.GroupLaws.{grouped}
+use borrow.Author.Rules.{rules}
+use Rattle.groups.proofs.group_atoms.Goals as goal
+
+pub returns-then-labels-lt-ATOMS : goal.returns-then-labels-lt-ATOMS
+returns-then-labels-lt-ATOMS c = (λ h. (refl, refl), λ h. absurd (omega (arith, h, c.if-labels-lt-ATOMS.true)))
+
+pub returns : goal.returns
+returns c = grouped c.args.table.now c.args.labels.now c.lowest_atoms.new.labels _ _ c.count_at-atoms.ensures c.count_at-bonds.ensures.0 c.if-labels-lt-ATOMS.false c.lowest_atoms.ensures

@@ -1,0 +1,15 @@
+-- `groups::pointers::settle` meets its contract. Assumes nothing.
+use Prim.Native.Nat.{◌-◌, ◌≤◌}
+use mathlib.Core.Path.{refl}
+use native.Mathlib.Omega.{arith}
+use borrow.Author.Rules.{rules}
+use lib.ListN.{length, length-set}
+use Rattle.groups.specs.Pointers.{Pointing}
+use Rattle.groups.proofs.PointerLaws.{Settled, settled_none, up_in, settled_more, settled_low, settled_all}
+use Rattle.groups.proofs.pointers.settle.Given as goal
+
+abbrev pub invariant-loop-i : goal.invariant-loop-i
+invariant-loop-i l = (l.i ≤ length l.pointers) × Settled l.initial.pointers l.i l.pointers × Pointing l.pointers
+
+abbrev pub decreases-loop-i : goal.decreases-loop-i
+decreases-loop-i l = length l.initial.pointers - l.i

@@ -1,0 +1,30 @@
+-- `labels::line_kind` meets its contract. Assumes nothing.
+use Prim.Native.Nat.{◌-◌}
+use mathlib.Core.Path.{◌≡◌, ◌∙◌}
+use native.Mathlib.Omega.{arith}
+use borrow.Author.Rules.{rules}
+use lib.ListN.{length, drop}
+use Rattle.format.specs.Labels.{line_of, parts}
+use Rattle.labels.proofs.LabelLaws.{onward, onward_hit, onward_end, line_short, line_first, line_second, line_both, shows_plain, shows_unparted, shows_labelled, onward_next}
+use Rattle.labels.proofs.line_kind.Goals as goal
+
+pub returns-then-line-lt2 : goal.returns-then-line-lt2
+returns-then-line-lt2 c = shows_plain _ (line_short _ c.if-line-lt2.true)
+
+pub returns-then-line-ne35 : goal.returns-then-line-ne35
+returns-then-line-ne35 c = shows_plain _ (line_first _ c.if-line-lt2.false c.if-line-ne35.true)
+
+pub returns-then-line-ne35-2 : goal.returns-then-line-ne35-2
+returns-then-line-ne35-2 c = shows_plain _ (line_second _ c.if-line-lt2.false c.if-line-ne35-2.true)
+
+pub loop-i-init : goal.loop-i-init
+loop-i-init c = line_both _ c.if-line-lt2.false c.if-line-ne35.false c.if-line-ne35-2.false
+
+pub returns-then-b-eq61 : goal.returns-then-b-eq61
+returns-then-b-eq61 c = shows_labelled _ _ _ _ (c.loop-i.invariant ∙ onward_hit _ _ _ c.loop-i-test.true c.if-b-eq61.true) c.code_of.ensures.0 c.code_of.ensures.1 (omega arith)
+
+pub loop-i-preserved : goal.loop-i-preserved
+loop-i-preserved c = onward_next _ _ _ _ c.loop-i-test.true c.if-b-eq61.false c.loop-i.invariant c.next_key-key.ensures
+
+pub returns : goal.returns
+returns c = shows_unparted _ (c.loop-i.invariant ∙ onward_end _ _ _ c.loop-i-test.false)

@@ -1,0 +1,17 @@
+-- `lines::plain::all_plain` meets its contract. Assumes nothing.
+use Prim.Native.Nat.{◌-◌, ◌≤◌}
+use mathlib.Core.Path.{◌≡◌, refl, sym, ◌∙◌}
+use mathlib.Core.Bool.{◌&&◌}
+use native.Mathlib.Omega.{arith}
+use lib.ListN.{length, drop}
+use borrow.Author.Rules.{rules}
+use Rattle.lists.specs.Lists.{all}
+use Rattle.format.specs.Bytes.{within}
+use Rattle.lines.proofs.LineLaws.{plain_turn, plain_end}
+use Rattle.lines.proofs.plain.all_plain.Given as goal
+
+abbrev pub invariant-loop-i : goal.invariant-loop-i
+invariant-loop-i l = (l.i ≤ length l.part) × (all (within 32 126) l.part ≡ (l.fine && all (within 32 126) (drop l.i l.part)))
+
+abbrev pub decreases-loop-i : goal.decreases-loop-i
+decreases-loop-i l = length l.part - l.i

@@ -1,0 +1,16 @@
+-- `numbering::sorted_values` meets its contract. Assumes nothing.
+use Prim.Native.Nat.{◌+◌, ◌-◌, ◌≤◌}
+use mathlib.Core.Path.{◌≡◌, ◌∙◌}
+use native.Mathlib.Omega.{arith}
+use borrow.Author.Rules.{rules}
+use lib.ListN.{length, take, drop}
+use Rattle.numbering.specs.Numbering.{through}
+use Rattle.numbering.proofs.OrderingLaws.{through_start, through_step, through_end}
+use Rattle.numbering.proofs.SortedValueLaws.{values_are}
+use Rattle.numbering.proofs.sorted_values.Given as goal
+
+abbrev pub invariant-loop-i : goal.invariant-loop-i
+invariant-loop-i l = (l.i ≤ l.rows) × (length l.values ≡ 64) × (through l.order 0 (take l.rows (drop 256 l.region)) l.initial.values ≡ through l.order l.i (take (l.rows - l.i) (drop (256 + l.i) l.region)) l.values)
+
+abbrev pub decreases-loop-i : goal.decreases-loop-i
+decreases-loop-i l = l.rows - l.i

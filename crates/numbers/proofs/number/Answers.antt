@@ -1,0 +1,8 @@
+-- `numbers::number` meets its contract. Assumes nothing.
+use Rattle.format.specs.Rows.{number}
+use borrow.Author.Rules.{rules}
+use Rattle.numbers.proofs.number.Goals as goal
+
+pub returns : goal.returns
+unfolding number
+returns c = c.digits.ensures

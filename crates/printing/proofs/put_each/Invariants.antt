@@ -1,0 +1,15 @@
+-- `printing::put_each` meets its contract. Assumes nothing.
+use Prim.Native.Nat.{◌-◌, ◌≤◌}
+use mathlib.Core.Path.{◌≡◌, refl}
+use native.Mathlib.Omega.{arith}
+use lib.ListN.{length, drop, drop_of_length-le}
+use borrow.Author.Rules.{rules}
+use Rattle.printing.specs.Printing.{Rests}
+use Rattle.printing.proofs.PrintLaws.{rest_all, text_on, rest_none}
+use Rattle.printing.proofs.put_each.Given as goal
+
+abbrev pub invariant-loop-i : goal.invariant-loop-i
+invariant-loop-i l = (l.i ≤ length l.text) × (length l.buffer ≡ length l.initial.buffer) × Rests l.initial.buffer l.at l.text l.buffer l.place (drop l.i l.text)
+
+abbrev pub decreases-loop-i : goal.decreases-loop-i
+decreases-loop-i l = length l.text - l.i

@@ -1,0 +1,16 @@
+-- `rowform::rows::put_bond` meets its contract. Assumes nothing.
+use native.Mathlib.Omega.{arith}
+use Rattle.format.specs.Labels.{Bonds}
+use Rattle.format.proofs.PlaceLaws.{row_small_lem}
+use Rattle.rowform.proofs.RowLaws.{bond_laid}
+use borrow.Author.Rules.{rules}
+use Rattle.rowform.proofs.rows.put_bond.Goals as goal
+
+pub overflow_add-place : goal.overflow_add-place
+overflow_add-place c = omega (arith, row_small_lem Bonds _ _ c.bond-place.ensures)
+
+pub overflow_add-place-2 : goal.overflow_add-place-2
+overflow_add-place-2 c = omega (arith, row_small_lem Bonds _ _ c.bond-place.ensures)
+
+pub returns : goal.returns
+returns c = bond_laid c.args.table.now c.requires.1 c.args.i _ c.bond-place.ensures _ _ _ _ c.cell-low.ensures c.cell-high.ensures c.cell.ensures c.letter_of-kind.ensures c.put_two.ensures

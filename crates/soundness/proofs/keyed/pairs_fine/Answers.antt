@@ -1,0 +1,9 @@
+-- `soundness::keyed::pairs_fine` meets its contract. Assumes nothing.
+use mathlib.Core.Path.{◌∙◌}
+use Rattle.format.specs.Structure.{most}
+use Rattle.soundness.proofs.RegionTests.{pairs_is}
+use borrow.Author.Rules.{rules}
+use Rattle.soundness.proofs.keyed.pairs_fine.Goals as goal
+
+pub returns : goal.returns
+returns c = c.keyed_fine.ensures ∙ pairs_is c.args.table.now _ _ c.cell-atoms.ensures c.cell-rows.ensures

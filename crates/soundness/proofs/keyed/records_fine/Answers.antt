@@ -1,0 +1,36 @@
+-- `soundness::keyed::records_fine` meets its contract. Assumes nothing.
+use Prim.Native.Nat.{◌-◌, ◌≤◌}
+use mathlib.Core.Path.{◌≡◌, sym, ◌∙◌}
+use native.Mathlib.Omega.{arith}
+use mathlib.Core.List.{◌∷◌}
+use lib.ListN.{drop}
+use lib.Dec.{ltb}
+use borrow.Author.Rules.{rules}
+use Rattle.lists.specs.Lists.{rows_from}
+use Rattle.lists.specs.Order.{ascends}
+use Rattle.format.specs.Table.{base, width}
+use Rattle.format.proofs.PlaceLaws.{row_place_lem, row_small_lem}
+use Rattle.soundness.specs.Sounding.{list_of, record_key, records_fine}
+use Rattle.soundness.proofs.TestLaws.{records_is, keys_miss, keys_pass, keys_end}
+use Rattle.soundness.proofs.keyed.records_fine.Goals as goal
+
+pub loop-i-init : goal.loop-i-init
+loop-i-init c = (omega arith, records_is c.args.table.now (base (list_of c.args.shape.list)) _ _ _ _ _ _ _)
+
+pub record_key-key-requires : goal.record_key-key-requires
+record_key-key-requires c = (row_small_lem _ _ _ c.record_at.ensures, c.requires.1, c.requires.2)
+
+pub returns-then-key-last : goal.returns-then-key-last
+returns-then-key-last c = let l = c.loop-i in let a = c.args in sym (l.invariant.1 ∙ keys_miss a.table.now (base (list_of a.shape.list)) _ _ (record_key _ _ _ _ _) _ _ c.loop-i-test.true _ (c.record_at.ensures ∙ row_place_lem (list_of a.shape.list) l.i (omega (arith, c.requires.0))) _ c.record_key-key.ensures c.if-key-last.true)
+
+pub overflow_add-i : goal.overflow_add-i
+overflow_add-i c = omega arith
+
+pub loop-i-smaller : goal.loop-i-smaller
+loop-i-smaller c = omega arith
+
+pub loop-i-preserved : goal.loop-i-preserved
+loop-i-preserved c = let l = c.loop-i in let a = c.args in (omega arith, l.invariant.1 ∙ keys_pass a.table.now (base (list_of a.shape.list)) _ _ (record_key _ _ _ _ _) _ _ c.loop-i-test.true _ (c.record_at.ensures ∙ row_place_lem (list_of a.shape.list) l.i (omega (arith, c.requires.0))) _ c.record_key-key.ensures c.if-key-last.false)
+
+pub returns : goal.returns
+returns c = sym (c.loop-i.invariant.1 ∙ keys_end c.args.table.now (base (list_of c.args.shape.list)) _ _ (record_key _ _ _ _ _) _ _ c.loop-i-test.false)

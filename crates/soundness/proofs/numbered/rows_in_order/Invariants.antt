@@ -1,0 +1,17 @@
+-- `soundness::numbered::rows_in_order` meets its contract. Assumes nothing.
+use Prim.Native.Nat.{◌-◌, ◌≤◌}
+use mathlib.Core.Path.{◌≡◌, refl, sym, ◌∙◌}
+use native.Mathlib.Omega.{arith}
+use borrow.Author.Rules.{rules}
+use lib.ListN.{drop}
+use Rattle.soundness.specs.Numbered.{column_of, in_turn}
+use Rattle.format.proofs.PlaceLaws.{atom_place_lem, atom_small}
+use Rattle.soundness.proofs.NumberedLoop.{higher_le, turn_at_beyond, turn_at_on, turn_whole, turn_void}
+use Rattle.soundness.proofs.InTurnLaws.{turn_none}
+use Rattle.soundness.proofs.numbered.rows_in_order.Given as goal
+
+abbrev pub invariant-loop-i : goal.invariant-loop-i
+invariant-loop-i l = (l.i ≤ l.atoms) × (l.met ≤ l.i) × (in_turn 0 l.rows (column_of l.column l.atoms l.table) ≡ in_turn l.met l.rows (drop l.i (column_of l.column l.atoms l.table)))
+
+abbrev pub decreases-loop-i : goal.decreases-loop-i
+decreases-loop-i l = l.atoms - l.i

@@ -1,0 +1,19 @@
+-- `soundness::parts::each_zero` meets its contract. Assumes nothing.
+use Prim.Native.Nat.{◌-◌, ◌≤◌}
+use mathlib.Core.Path.{◌≡◌, sym, ◌∙◌}
+use mathlib.Core.Bool.{◌&&◌}
+use native.Mathlib.Omega.{arith}
+use lib.ListN.{length, drop}
+use lib.Dec.{eqb}
+use borrow.Author.Rules.{rules}
+use Rattle.lists.specs.Lists.{all}
+use Rattle.format.specs.Structure.{ranging}
+use Rattle.soundness.specs.Sounding.{unused}
+use Rattle.soundness.proofs.TestLaws.{unused_whole, zeros_turn, zeros_end}
+use Rattle.soundness.proofs.parts.each_zero.Given as goal
+
+abbrev pub invariant-loop-i : goal.invariant-loop-i
+invariant-loop-i l = (l.i ≤ length l.part) × (unused l.part ≡ (eqb l.any 0 && all (ranging 0 0) (drop l.i l.part)))
+
+abbrev pub decreases-loop-i : goal.decreases-loop-i
+decreases-loop-i l = length l.part - l.i

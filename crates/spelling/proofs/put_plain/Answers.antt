@@ -1,0 +1,7 @@
+-- `spelling::put_plain` meets its contract. Assumes nothing.
+use Rattle.spelling.proofs.SpellLaws.{plain_laid}
+use borrow.Author.Rules.{rules}
+use Rattle.spelling.proofs.put_plain.Goals as goal
+
+pub returns : goal.returns
+returns c = plain_laid _ c.args.mass _ _ c.letters_of-letters.ensures.0 c.letters_of-letters.ensures.1 c.put_mass-behind.ensures c.put_letters.ensures

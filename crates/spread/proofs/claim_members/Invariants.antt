@@ -1,0 +1,18 @@
+-- `spread::claim_members` meets its contract. Assumes nothing.
+use Prim.Native.Nat.{◌-◌, ◌≤◌}
+use mathlib.Core.Bool.{true}
+use mathlib.Core.Path.{◌≡◌, refl, ◌∙◌}
+use native.Mathlib.Omega.{arith}
+use borrow.Author.Rules.{rules}
+use lib.ListN.{length, length-set, drop}
+use Rattle.lists.specs.Lists.{all}
+use Rattle.format.specs.Bytes.{within, fields}
+use Rattle.spread.specs.Members.{members_in, claims}
+use Rattle.spread.proofs.MemberLaws.{met_number, listed_parts, listed_right, member_place, claim_none, claim_end, claim_taken, claim_free, shows_some, shows_none}
+use Rattle.spread.proofs.claim_members.Given as goal
+
+abbrev pub invariant-loop-i : goal.invariant-loop-i
+invariant-loop-i l = (l.i ≤ length l.line) × (length l.region ≡ 321) × (all (within 1 256) (members_in (fields (drop l.i l.line))) ≡ true) × (claims l.number (members_in (fields (drop l.at l.line))) l.initial.region ≡ claims l.number (members_in (fields (drop l.i l.line))) l.region)
+
+abbrev pub decreases-loop-i : goal.decreases-loop-i
+decreases-loop-i l = length l.line - l.i

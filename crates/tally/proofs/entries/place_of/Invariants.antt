@@ -1,0 +1,12 @@
+-- `tally::entries::place_of` meets its contract. Assumes nothing.
+use Prim.Native.Nat.{◌-◌, ◌≤◌, ◌<◌}
+use native.Mathlib.Omega.{arith}
+use Rattle.tally.specs.Gathering.{KeysAscend, Between}
+use Rattle.tally.proofs.SearchLaws.{no_keys, behind_last, before_last, search_up, search_down, search_ends}
+use Rattle.tally.proofs.entries.place_of.Given as goal
+
+abbrev pub invariant-loop-low : goal.invariant-loop-low
+invariant-loop-low l = (l.low ≤ l.high) × (l.high < l.count) × (KeysAscend l.count l.keys → Between l.keys l.count l.key l.low l.high)
+
+abbrev pub decreases-loop-low : goal.decreases-loop-low
+decreases-loop-low l = l.high - l.low

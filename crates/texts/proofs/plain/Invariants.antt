@@ -1,0 +1,14 @@
+-- `texts::plain` meets its contract. Assumes nothing.
+use Prim.Native.Nat.{◌-◌}
+use mathlib.Core.Path.{◌≡◌, refl, sym, ◌∙◌}
+use native.Mathlib.Omega.{arith}
+use lib.ListN.{length, drop}
+use Rattle.texts.specs.Spans.{plain_text}
+use Rattle.texts.proofs.TextSpanLaws.{plain_out, plain_on, plain_end}
+use Rattle.texts.proofs.plain.Given as goal
+
+abbrev pub invariant-loop-i : goal.invariant-loop-i
+invariant-loop-i l = plain_text l.text ≡ plain_text (drop l.i l.text)
+
+abbrev pub decreases-loop-i : goal.decreases-loop-i
+decreases-loop-i l = length l.text - l.i

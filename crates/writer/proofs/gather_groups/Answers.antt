@@ -1,0 +1,10 @@
+-- `writer::gather_groups` meets its contract. Assumes nothing.
+use native.Mathlib.Omega.{arith}
+use Rattle.writer.proofs.SoundLaws.{groups_gathered}
+use borrow.Author.Rules.{rules}
+use Rattle.writer.proofs.gather_groups.Goals as goal
+
+pub returns : goal.returns
+returns c =
+    let g = c.group_atoms in
+    (c.gather.ensures.0, groups_gathered c.args.table.now g.new.1.0 _ _ _ _ _ (omega arith) (g.ensures.1 (omega arith)) c.gather.ensures.1)
