@@ -7,7 +7,7 @@ use mathlib.Core.List.{List, [], ◌∷◌, ◌++◌, map, append_assoc}
 use native.Mathlib.Nat.{mul-suc, mul-zero}
 use native.Mathlib.Omega.{arith}
 use lib.ListN.{length, get_or, take, drop, replicate, length-append, length-replicate, length-drop, take-append-drop, replicate-append-replicate, get_or-append}
-use lib.Seq.{length-take-le, take-take, drop_at, take_at, drop-drop, take-append-add, drop-append-add, get_or-append-add, sets, sets-eq}
+use lib.Seq.{length-take-le, drop_at, take_at, drop-drop, take-append-add, drop-append-add, get_or-append-add, sets, sets-eq}
 use Rattle.lists.specs.Lists.{all, filled, flat, rows_from}
 use Rattle.lists.proofs.ListLaws.{all_parts}
 use Rattle.lists.proofs.PartLaws.{flat_nil, flat_cons, flat_behind, filled_is, filled_length, filled_take}
@@ -61,15 +61,6 @@ module _ {A B : Type 0} (w : ℕ) (row : List B → A) where
       let one : row (s ++ z) ≡ row s = ap row e ∙ f a (b ++ z) la ∙ sym (f a b la) ∙ ap row (take-append-drop w s) in
       let two : drop w (s ++ z) ≡ b ++ z = ap (drop w) e ∙ drop_at a (b ++ z) w la in
       rows_suc n (s ++ z) ∙ rw (one, two, rows_local f n b z lb) (sym (rows_suc n s))
-
-  -- so the rows of a front that is long enough are those of the whole
-  pub rows_cut : ((s z : List B) → length s ≡ w → row (s ++ z) ≡ row s) → (n k : ℕ) (t : List B) → w * n ≤ k → w * n ≤ length t → rows_from w row n (take k t) ≡ rows_from w row n t
-  rows_cut f n k t h l =
-      let front : take (w * n) (take k t) ≡ take (w * n) t = take-take (w * n) k t h in
-      let long : length (take (w * n) t) ≡ w * n = length-take-le (w * n) t l in
-      ap (rows_from w row n) (sym (take-append-drop (w * n) (take k t)) ∙ ap (λ (u : List B). u ++ drop (w * n) (take k t)) front)
-      ∙ rows_local f n (take (w * n) t) (drop (w * n) (take k t)) long
-      ∙ sym (ap (rows_from w row n) (sym (take-append-drop (w * n) t)) ∙ rows_local f n (take (w * n) t) (drop (w * n) t) long)
 
 pub rows_map : {A B C : Type 0} (w : ℕ) (row : List B → A) (f : A → C) (n : ℕ) (t : List B) → map f (rows_from w row n t) ≡ rows_from w (λ s. f (row s)) n t
 unfolding rows_from

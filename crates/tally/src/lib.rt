@@ -6,7 +6,7 @@
 ghost use Rattle.std.specs.Prelude.{◌≡◌, ℕ, ◌+◌, ◌<◌, ◌≤◌, length, get_or, eqb};
 ghost use Rattle.lists.specs.Lists.{share};
 ghost use Rattle.tally.specs.Ranks.{key_or};
-ghost use Rattle.tally.specs.Gathering.{KeysAscend, Gathers, GathersAtoms, atom_in, LeftShows};
+ghost use Rattle.tally.specs.Gathering.{KeysAscend, Gathers, atom_no, LeftShows};
 
 pub mod elements; // elements.rt: elements by their rank
 mod entries; // entries.rt: entries by ascending key
@@ -23,33 +23,27 @@ pub const ENTRIES: usize = 2 * Table::ATOMS;
 // A key is its group's number times this, plus that of the element and its mass: more than any of those, so that keys tell groups apart.
 pub const GROUPS: u32 = 65536;
 
-// How many numbers an atom has.
-const WIDTH: usize = 5;
-
-// How many ranks a key may have: those below GROUPS / MASSES.
-const RANKS: usize = 128;
-
 // A number that no group has.
 const NO_GROUP: u32 = 256;
 
 // The key of hydrogen without mass, whose rank is 2.
 const HYDROGEN: u32 = 2 * MASSES;
 
-// The key of the atom with this index, in the table's part that has the atoms; 0 where no atom of a sound table is of its kind.
-fn key_at(atoms: &[i32], index: usize) -> u32
+// The key of the atom with this index; 0 where no atom of a sound table is of its kind.
+fn key_at(table: &[i32], index: usize) -> u32
     requires { index < 256 }
-    ensures { result ≡ key_or (atom_in atoms.now index).kind }
+    ensures { result ≡ key_or (atom_no table.now index).kind }
 {
-    let place = WIDTH * index;
-    key_of(cell(atoms, place), cell(atoms, place + 1))
+    let place = Table::atom(index);
+    key_of(cell(table, place), cell(table, place + 1))
 }
 
 // Its implied hydrogens.
-fn implied_at(atoms: &[i32], index: usize) -> u32
+fn implied_at(table: &[i32], index: usize) -> u32
     requires { index < 256 }
-    ensures { result ≡ (atom_in atoms.now index).hydrogens }
+    ensures { result ≡ (atom_no table.now index).hydrogens }
 {
-    cell(atoms, WIDTH * index + 2)
+    cell(table, Table::atom(index) + 2)
 }
 
 // A group is left where the next atom is of another one: its implied hydrogens, if it has any, are one entry more. Answers how many entries there are then.
@@ -85,26 +79,29 @@ fn carried(group: u32, next: u32, hydrogens: u32) -> u32
     0
 }
 
-// As many atoms as there are labels, in the table's part that has them. Where an element was put last is remembered for each rank and looked at first: it is there
-// again but for a few atoms of a block. An atom that no sound table has ends the pass with 0.
-fn gather_atoms(
-    atoms: &[i32],
+// The keys and counts of the formula's entries, fragment by fragment, each in the formula's order, and how many there are: "C, H, then by symbol, a shorter symbol
+// before its extension; no mass before ascending masses". An atom that no sound table has, or too few labels, end the pass with 0.
+pub fn gather(
+    table: &[i32],
     labels: &[u8],
     keys: &mut [u32; ENTRIES],
     counts: &mut [u32; ENTRIES],
 ) -> usize
-    requires { length labels.now ≤ 256 }
     ensures within { result ≤ 512 }
-    ensures holds { GathersAtoms atoms.now labels.now result keys.new counts.new }
+    ensures holds { Gathers table.now labels.now result keys.new counts.new }
 {
-    let mut likely = [0u16; RANKS];
+    let atoms = count_at(table, Table::ATOM_COUNT, Table::ATOMS);
+    if labels.len() < atoms {
+        return 0;
+    }
     let mut count = 0;
+    let mut place = 0;
     let mut group = NO_GROUP;
     let mut hydrogens = 0;
     let mut i = 0;
-    while i < labels.len() {
-        let own = key_at(atoms, i);
-        let more = implied_at(atoms, i);
+    while i < atoms {
+        let own = key_at(table, i);
+        let more = implied_at(table, i);
         if own == 0 {
             return 0;
         }
@@ -116,37 +113,9 @@ fn gather_atoms(
         hydrogens = carried(group, next, hydrogens) + more;
         group = next;
         let key = GROUPS * group + own;
-        let rank = (own / MASSES) as usize;
-        let place = find(keys, count, likely[rank] as usize, key);
-        likely[rank] = place as u16;
+        place = find(keys, count, place, key);
         count = add(keys, counts, count, place, key, 1);
         i = i + 1;
     }
     leave_group(keys, counts, count, group, NO_GROUP, hydrogens)
-}
-
-// The keys and counts of the formula's entries, fragment by fragment, each in the formula's order, and how many there are: "C, H, then by symbol, a shorter symbol
-// before its extension; no mass before ascending masses". A table that is too short, or too few labels, are answered 0.
-pub fn gather(
-    table: &[i32],
-    labels: &[u8],
-    keys: &mut [u32; ENTRIES],
-    counts: &mut [u32; ENTRIES],
-) -> usize
-    ensures within { result ≤ 512 }
-    ensures holds { Gathers table.now labels.now result keys.new counts.new }
-{
-    if table.len() < Table::SIZE {
-        return 0;
-    }
-    let atoms = count_at(table, Table::ATOM_COUNT, Table::ATOMS);
-    if labels.len() < atoms {
-        return 0;
-    }
-    gather_atoms(
-        &table[Table::FIRST_ATOM..Table::FIRST_BOND],
-        &labels[0..atoms],
-        keys,
-        counts,
-    )
 }
