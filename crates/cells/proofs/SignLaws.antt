@@ -52,7 +52,7 @@ abbrev pub machine : ℤ → ℤ
 machine z = to_z w32 (of_z w32 z)
 
 machine_is : (z : ℤ) → mag z < 2 ^ 31 → machine z ≡ z
-machine_is z b = to_z-of_z (sfits_of b)
+machine_is z b = to_z-of_z {w = w32} (sfits_of b)
 
 sign_of : (z : ℤ) → lt_z z (pos 0) ≡ negative z
 unfolding negative

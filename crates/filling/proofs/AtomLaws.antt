@@ -46,7 +46,7 @@ pub minus_stored : (t : List ℤ) (at c : ℕ) → c < 100 → set t at (to_z w3
 unfolding placed
 minus_stored t at c h =
     let n : 100 - c ≤ 100 = omega arith in
-    ap (λ z. set t at z) (ap (λ z. to_z w32 (of_z w32 z)) (minus_is (100 - c) n) ∙ to_z-of_z (sfits_of (minus_small (100 - c) n)) ∙ sym (value_low c h))
+    ap (λ z. set t at z) (ap (λ z. to_z w32 (of_z w32 z)) (minus_is (100 - c) n) ∙ to_z-of_z {w = w32} (sfits_of (minus_small (100 - c) n)) ∙ sym (value_low c h))
 
 pub plus_placed : (t t₁ : List ℤ) (at c : ℕ) → 100 ≤ c → t₁ ≡ placed t at (signed_of (c - 100) ∷ []) → t₁ ≡ placed t at (value_of c ∷ [])
 plus_placed t t₁ at c h e = e ∙ ap (λ z. placed t at (z ∷ [])) (sym (value_high c h))

@@ -53,11 +53,31 @@ counted_kept Pairs c p h k = record { atoms = h.atoms; bonds = h.bonds; charges 
 rows_kept : (P : ListOf → List Row → ℕ → Type 0) (l : ListOf) (rs : List Row) (c : ℕ) (s : Structure) (p : Progress) → P l rs c → ((m : ListOf) → P m (rows_of m s) (count_of m p))
     → (m : ListOf) → P m (rows_of m (with_rows l rs s)) (count_of m (with_count (code_of l) c p))
 unfolding rows_of with_rows
-rows_kept P Bonds rs c s p new old m = elim m [ Bonds ↦ new | Charges ↦ old Charges | Radicals ↦ old Radicals | Centres ↦ old Centres | Pairs ↦ old Pairs ]
-rows_kept P Charges rs c s p new old m = elim m [ Bonds ↦ old Bonds | Charges ↦ new | Radicals ↦ old Radicals | Centres ↦ old Centres | Pairs ↦ old Pairs ]
-rows_kept P Radicals rs c s p new old m = elim m [ Bonds ↦ old Bonds | Charges ↦ old Charges | Radicals ↦ new | Centres ↦ old Centres | Pairs ↦ old Pairs ]
-rows_kept P Centres rs c s p new old m = elim m [ Bonds ↦ old Bonds | Charges ↦ old Charges | Radicals ↦ old Radicals | Centres ↦ new | Pairs ↦ old Pairs ]
-rows_kept P Pairs rs c s p new old m = elim m [ Bonds ↦ old Bonds | Charges ↦ old Charges | Radicals ↦ old Radicals | Centres ↦ old Centres | Pairs ↦ new ]
+rows_kept P Bonds rs c s p new old Bonds = new
+rows_kept P Bonds rs c s p new old Charges = old Charges
+rows_kept P Bonds rs c s p new old Radicals = old Radicals
+rows_kept P Bonds rs c s p new old Centres = old Centres
+rows_kept P Bonds rs c s p new old Pairs = old Pairs
+rows_kept P Charges rs c s p new old Bonds = old Bonds
+rows_kept P Charges rs c s p new old Charges = new
+rows_kept P Charges rs c s p new old Radicals = old Radicals
+rows_kept P Charges rs c s p new old Centres = old Centres
+rows_kept P Charges rs c s p new old Pairs = old Pairs
+rows_kept P Radicals rs c s p new old Bonds = old Bonds
+rows_kept P Radicals rs c s p new old Charges = old Charges
+rows_kept P Radicals rs c s p new old Radicals = new
+rows_kept P Radicals rs c s p new old Centres = old Centres
+rows_kept P Radicals rs c s p new old Pairs = old Pairs
+rows_kept P Centres rs c s p new old Bonds = old Bonds
+rows_kept P Centres rs c s p new old Charges = old Charges
+rows_kept P Centres rs c s p new old Radicals = old Radicals
+rows_kept P Centres rs c s p new old Centres = new
+rows_kept P Centres rs c s p new old Pairs = old Pairs
+rows_kept P Pairs rs c s p new old Bonds = old Bonds
+rows_kept P Pairs rs c s p new old Charges = old Charges
+rows_kept P Pairs rs c s p new old Radicals = old Radicals
+rows_kept P Pairs rs c s p new old Centres = old Centres
+rows_kept P Pairs rs c s p new old Pairs = new
 
 -- the other parts of the structure stay, and the count of atoms
 rows_alone : (l : ListOf) (rs : List Row) (s : Structure) (c : ℕ) (p : Progress) → ((with_rows l rs s).atoms ≡ s.atoms) × ((with_rows l rs s).id ≡ s.id) × ((with_rows l rs s).handed ≡ s.handed) × ((with_count (code_of l) c p).atoms ≡ p.atoms)
@@ -195,8 +215,8 @@ module _ (at : ℕ) (p : Progress) (t region : List ℕ) (fs : List Bytes) (r : 
         let fit : (l : ListOf) → Fits l (length next) (rows_of l st.body) = λ l. atom_fits k st.body.atoms next a l (rows_of l st.body) (rw old.atoms (old.fits l)) in
         record {
           atoms = refl;
-          counts = λ l. elim l [ Bonds ↦ old.counts Bonds | Charges ↦ old.counts Charges | Radicals ↦ old.counts Radicals | Centres ↦ old.counts Centres | Pairs ↦ old.counts Pairs ];
-          fits = λ l. elim l [ Bonds ↦ fit Bonds | Charges ↦ fit Charges | Radicals ↦ fit Radicals | Centres ↦ fit Centres | Pairs ↦ fit Pairs ];
+          counts = λ l. elim l as (λ l. length (rows_of l (with_atoms next st.body)) ≡ count_of l (with_count 6 (length next) p)) [ Bonds ↦ old.counts Bonds | Charges ↦ old.counts Charges | Radicals ↦ old.counts Radicals | Centres ↦ old.counts Centres | Pairs ↦ old.counts Pairs ];
+          fits = λ l. elim l as (λ l. Fits l (length next) (rows_of l (with_atoms next st.body))) [ Bonds ↦ fit Bonds | Charges ↦ fit Charges | Radicals ↦ fit Radicals | Centres ↦ fit Centres | Pairs ↦ fit Pairs ];
           id = old.id;
           handed = old.handed;
         }

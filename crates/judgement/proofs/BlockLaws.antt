@@ -35,7 +35,7 @@ use Rattle.sorted.proofs.FitLaws.{fits_nil}
 use Rattle.sorted.proofs.GeometryLaws.{fine_none}
 use Rattle.coordinates.specs.KeptRows.{Stored}
 use Rattle.coordinates.proofs.KeptLaws.{stored_none, stored_less}
-use Rattle.gather.specs.Progress.{part_of, laid, Within, recounted, Bounded, BoundedTurn, Flowing, FlowingTurn, Listed, entry_fine}
+use Rattle.gather.specs.Progress.{part_of, count_of, laid, Within, recounted, Bounded, BoundedTurn, Flowing, FlowingTurn, Listed, entry_fine}
 use Rattle.gather.specs.Shows.{Shows, ShowsTurn}
 use Rattle.gather.specs.Runs.{Reached, RowsRan}
 use Rattle.gather.proofs.RunLaws.{past_shown, rows_stay}
@@ -70,7 +70,7 @@ start_listed : Listed unread_yet start.body
 unfolding start rows_of
 start_listed = record {
   atoms = refl;
-  counts = λ l. elim l [ Bonds ↦ refl | Charges ↦ refl | Radicals ↦ refl | Centres ↦ refl | Pairs ↦ refl ];
+  counts = λ l. elim l as (λ l. length (rows_of l start.body) ≡ count_of l unread_yet) [ Bonds ↦ refl | Charges ↦ refl | Radicals ↦ refl | Centres ↦ refl | Pairs ↦ refl ];
   fits = λ l. rw (start_rows l) (fits_nil l 0);
   id = refl;
   handed = refl;

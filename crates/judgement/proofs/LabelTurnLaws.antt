@@ -20,7 +20,7 @@ use Rattle.labels.specs.ShownLines.{by_code, shown_line, ShowsLine}
 use Rattle.labels.specs.declared.LineKind.{LineKind}
 use Rattle.labels.specs.declared.LineKind.TheVariants as K
 use Rattle.sorted.specs.Regions.{seen_from, top_of}
-use Rattle.gather.specs.Progress.{part_of, laid, Bounded, BoundedTurn, FlowingTurn, altered}
+use Rattle.gather.specs.Progress.{part_of, count_of, laid, Bounded, BoundedTurn, FlowingTurn, altered}
 use Rattle.gather.specs.Shows.{Shows, ShowsTurn}
 use Rattle.gather.specs.declared.progress.Progress.{Progress}
 use Rattle.gather.specs.declared.progress.Turn.{Turn}
@@ -97,7 +97,7 @@ module _ (block : Bytes) (at from end code : ℕ) (u : Given) (p : Progress) (t 
               formula = s.holding.formula;
               formula_fine_lem = s.holding.formula_fine_lem;
               kinds = s.holding.kinds;
-              listed = listed_still p (with_label code top p) st.body s.holding.listed refl (λ l. elim l [ Bonds ↦ refl | Charges ↦ refl | Radicals ↦ refl | Centres ↦ refl | Pairs ↦ refl ]) refl refl;
+              listed = listed_still p (with_label code top p) st.body s.holding.listed refl (λ l. elim l as (λ l. count_of l (with_label code top p) ≡ count_of l p) [ Bonds ↦ refl | Charges ↦ refl | Radicals ↦ refl | Centres ↦ refl | Pairs ↦ refl ]) refl refl;
               geometry = s.holding.geometry;
             };
           }

@@ -75,8 +75,8 @@ listed_as p q n y s h a e i j =
     let g : (l : ListOf) → length (rows_of l s) ≡ count_of l q = λ l. h.counts l ∙ sym (e l) in
     record {
       atoms = h.atoms ∙ sym a;
-      counts = λ l. elim l [ Bonds ↦ g Bonds | Charges ↦ g Charges | Radicals ↦ g Radicals | Centres ↦ g Centres | Pairs ↦ g Pairs ];
-      fits = λ l. elim l [ Bonds ↦ f Bonds | Charges ↦ f Charges | Radicals ↦ f Radicals | Centres ↦ f Centres | Pairs ↦ f Pairs ];
+      counts = λ l. elim l as (λ l. length (rows_of l (marked n y s)) ≡ count_of l q) [ Bonds ↦ g Bonds | Charges ↦ g Charges | Radicals ↦ g Radicals | Centres ↦ g Centres | Pairs ↦ g Pairs ];
+      fits = λ l. elim l as (λ l. Fits l q.atoms (rows_of l (marked n y s))) [ Bonds ↦ f Bonds | Charges ↦ f Charges | Radicals ↦ f Radicals | Centres ↦ f Centres | Pairs ↦ f Pairs ];
       id = i;
       handed = j;
     }
@@ -115,7 +115,7 @@ id_shown n k block at p t st h = record {
     formula = h.holding.formula;
     formula_fine_lem = h.holding.formula_fine_lem;
     kinds = h.holding.kinds;
-    listed = listed_as p (with_number n p) n st.body.handed st.body h.holding.listed refl (λ l. elim l [ Bonds ↦ refl | Charges ↦ refl | Radicals ↦ refl | Centres ↦ refl | Pairs ↦ refl ]) refl h.holding.listed.handed;
+    listed = listed_as p (with_number n p) n st.body.handed st.body h.holding.listed refl (λ l. elim l as (λ l. count_of l (with_number n p) ≡ count_of l p) [ Bonds ↦ refl | Charges ↦ refl | Radicals ↦ refl | Centres ↦ refl | Pairs ↦ refl ]) refl h.holding.listed.handed;
     geometry = h.holding.geometry;
   };
 }
@@ -162,7 +162,7 @@ formula_shown k block at from to n p t st low e z h = record {
     formula = refl;
     formula_fine_lem = taken_fine k (part_of block from to) (formula_shape (part_of block from to)) low refl (sym e ∙ z);
     kinds = h.holding.kinds;
-    listed = listed_still p (with_part (record { from = from; to = to }) p) st.body h.holding.listed refl (λ l. elim l [ Bonds ↦ refl | Charges ↦ refl | Radicals ↦ refl | Centres ↦ refl | Pairs ↦ refl ]) refl refl;
+    listed = listed_still p (with_part (record { from = from; to = to }) p) st.body h.holding.listed refl (λ l. elim l as (λ l. count_of l (with_part (record { from = from; to = to }) p) ≡ count_of l p) [ Bonds ↦ refl | Charges ↦ refl | Radicals ↦ refl | Centres ↦ refl | Pairs ↦ refl ]) refl refl;
     geometry = h.holding.geometry;
   };
 }

@@ -16,7 +16,7 @@ use Rattle.format.specs.Labels.{Bonds, Charges, Radicals, Centres, Pairs}
 use Rattle.format.specs.Reading.{Prose, State, with_text}
 use Rattle.format.specs.Reading.{Go as going}
 use Rattle.lines.specs.Cuts.{Uncommented}
-use Rattle.gather.specs.Progress.{part_of, prose_at, laid, Within, CountedTurn, Bounded, BoundedTurn, Flowing, FlowingTurn}
+use Rattle.gather.specs.Progress.{part_of, prose_at, count_of, laid, Within, CountedTurn, Bounded, BoundedTurn, Flowing, FlowingTurn}
 use Rattle.gather.specs.Shows.{Shows, ShowsTurn}
 use Rattle.gather.specs.declared.progress.Part.{Part}
 use Rattle.gather.specs.declared.progress.Progress.{Progress}
@@ -103,7 +103,7 @@ texts_shown k block at p t st x y z texts h e = record {
     formula = h.holding.formula;
     formula_fine_lem = h.holding.formula_fine_lem;
     kinds = h.holding.kinds;
-    listed = listed_still p (with_texts x y z p) st.body h.holding.listed refl (λ l. elim l [ Bonds ↦ refl | Charges ↦ refl | Radicals ↦ refl | Centres ↦ refl | Pairs ↦ refl ]) refl refl;
+    listed = listed_still p (with_texts x y z p) st.body h.holding.listed refl (λ l. elim l as (λ l. count_of l (with_texts x y z p) ≡ count_of l p) [ Bonds ↦ refl | Charges ↦ refl | Radicals ↦ refl | Centres ↦ refl | Pairs ↦ refl ]) refl refl;
     geometry = h.holding.geometry;
   };
 }

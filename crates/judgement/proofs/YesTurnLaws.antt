@@ -15,7 +15,7 @@ use Rattle.format.specs.Rows.{Row}
 use Rattle.format.specs.Structure.{Structure, rows_of, handed_twice}
 use Rattle.format.specs.Reading.{State, if◌stop◌else◌, with_body, with_yes, yes_turn, yes_line}
 use Rattle.format.specs.Reading.{Go as going, Stop as stopping}
-use Rattle.gather.specs.Progress.{laid, Bounded, Listed}
+use Rattle.gather.specs.Progress.{count_of, laid, Bounded, Listed}
 use Rattle.gather.specs.Shows.{Shows}
 use Rattle.gather.specs.declared.progress.Progress.{Progress}
 use Rattle.judgement.proofs.ValueLaws.{is_yes}
@@ -96,7 +96,7 @@ yes_shown k block at p t st h = record {
     formula = h.holding.formula;
     formula_fine_lem = h.holding.formula_fine_lem;
     kinds = h.holding.kinds;
-    listed = listed_as p (handed_now p) st.body.id true st.body h.holding.listed refl (λ l. elim l [ Bonds ↦ refl | Charges ↦ refl | Radicals ↦ refl | Centres ↦ refl | Pairs ↦ refl ])
+    listed = listed_as p (handed_now p) st.body.id true st.body h.holding.listed refl (λ l. elim l as (λ l. count_of l (handed_now p) ≡ count_of l p) [ Bonds ↦ refl | Charges ↦ refl | Radicals ↦ refl | Centres ↦ refl | Pairs ↦ refl ])
         h.holding.listed.id refl;
     geometry = h.holding.geometry;
   };

@@ -41,7 +41,7 @@ module _ (k : ℕ) (s : Structure) where
       let r = and_parts (test Radicals) _ c.1 in
       let d = and_parts (test Centres) _ r.1 in
       let p = and_parts (test Pairs) true d.1 in
-      λ l. elim l [ Bonds ↦ b.0 | Charges ↦ c.0 | Radicals ↦ r.0 | Centres ↦ d.0 | Pairs ↦ p.0 ]
+      λ l. elim l as (λ l. test l ≡ true) [ Bonds ↦ b.0 | Charges ↦ c.0 | Radicals ↦ r.0 | Centres ↦ d.0 | Pairs ↦ p.0 ]
 
   every_list : ((l : ListOf) → test l ≡ true) → all test lists ≡ true
   unfolding all lists
@@ -90,7 +90,7 @@ module _ (s : Structure) (spans : List Span) (t : List ℤ) where
       let r = split t (part Radicals) (part Centres ++ (part Pairs ++ [])) 2896 64 896 (h Radicals) (omega arith) c.1 in
       let d = split t (part Centres) (part Pairs ++ []) 2960 384 512 (h Centres) (omega arith) r.1 in
       let p = split t (part Pairs) [] 3344 512 0 (h Pairs) (omega arith) d.1 in
-      λ l. elim l [ Bonds ↦ b.0 | Charges ↦ c.0 | Radicals ↦ r.0 | Centres ↦ d.0 | Pairs ↦ p.0 ]
+      λ l. elim l as (λ l. part l ≡ take (width l * most l) (drop (base l) t)) [ Bonds ↦ b.0 | Charges ↦ c.0 | Radicals ↦ r.0 | Centres ↦ d.0 | Pairs ↦ p.0 ]
 
   pub laid_of : 3856 ≤ length t → length (flat span_cells spans) ≡ 6 → length atoms_part ≡ 1280 → ((l : ListOf) → length (part l) ≡ width l * most l) → encode s spans ≡ take 3856 t → Laid s spans t
   unfolding derived

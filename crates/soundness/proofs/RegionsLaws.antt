@@ -177,7 +177,7 @@ module _ (k : ℕ) (t : List ℤ) (long : 3856 ≤ length t) (H : Header t long)
       let c = and_parts (charges_fine t) _ b.1 in
       let r = and_parts (radicals_fine t) _ c.1 in
       let d = and_parts (centres_fine t) (pairs_fine t) r.1 in
-      λ l. elim l [ Bonds ↦ bonds_there b.0 | Charges ↦ charges_there A c.0 | Radicals ↦ radicals_there A r.0 | Centres ↦ centres_there d.0 | Pairs ↦ pairs_there d.1 ]
+      λ l. elim l as (λ l. RegionOf l) [ Bonds ↦ bonds_there b.0 | Charges ↦ charges_there A c.0 | Radicals ↦ radicals_there A r.0 | Centres ↦ centres_there d.0 | Pairs ↦ pairs_there d.1 ]
 
   -- THE OTHER WAY
   lists_back : each_atom ≡ true → ((l : ListOf) → RegionOf l) → lists_fine t ≡ true

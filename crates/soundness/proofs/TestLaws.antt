@@ -172,7 +172,7 @@ records_is t base members low high grouped w n rows = refl
 
 -- A SIGNED NUMBER OF 32 BITS is 0 if its bits are; the bits of two laid over each other are 0 if those of both are
 bits_zero : (z : ℤ) → mag z < 2 ^ 31 → of_z w32 z ≡ 0 → ranging 0 0 z ≡ true
-bits_zero z b e = ap (ranging 0 0) (sym (to_z-of_z (sfits_of b)) ∙ ap (to_z w32) e ∙ to_z_pos w32 (omega arith)) ∙ ranging_pos 0 0 0 (omega arith) (omega arith)
+bits_zero z b e = ap (ranging 0 0) (sym (to_z-of_z {w = w32} (sfits_of b)) ∙ ap (to_z w32) e ∙ to_z_pos w32 (omega arith)) ∙ ranging_pos 0 0 0 (omega arith) (omega arith)
 
 bits_some : (z : ℤ) → (of_z w32 z ≡ 0 → ⊥) → ranging 0 0 z ≡ false
 bits_some z h = never (ranging 0 0 z) (λ e. h (ap (of_z w32) (zero_is z e)))

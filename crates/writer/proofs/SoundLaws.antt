@@ -62,7 +62,7 @@ each_list p h =
     let b = all_parts p Charges (Radicals ∷ Centres ∷ Pairs ∷ []) a.1 in
     let c = all_parts p Radicals (Centres ∷ Pairs ∷ []) b.1 in
     let d = all_parts p Centres (Pairs ∷ []) c.1 in
-    λ l. elim l [ Bonds ↦ a.0 | Charges ↦ b.0 | Radicals ↦ c.0 | Centres ↦ d.0 | Pairs ↦ (all_parts p Pairs [] d.1).0 ]
+    λ l. elim l as (λ l. p l ≡ true) [ Bonds ↦ a.0 | Charges ↦ b.0 | Radicals ↦ c.0 | Centres ↦ d.0 | Pairs ↦ (all_parts p Pairs [] d.1).0 ]
 
 -- A WELL-FORMED STRUCTURE: its atoms, its rows, and its bonds
 well_parts : (s : Structure) → well_formed 103 s ≡ true → (all (atom_ok 103) s.atoms ≡ true) × (all (rows_ok (length s.atoms) s) lists ≡ true)

@@ -13,10 +13,10 @@ pub loop-i-init : goal.loop-i-init
 loop-i-init c = refl
 
 pub returns-then-not-is_gap : goal.returns-then-not-is_gap
-returns-then-not-is_gap c = sym (c.loop-i.invariant ∙ all_miss gap 0 _ _ c.loop-i-test.true (sym c.is_gap.ensures ∙ not-true _ c.if-not-is_gap.true))
+returns-then-not-is_gap c = sym (c.loop-i.invariant ∙ all_miss gap 0 _ _ c.loop-i-test.true (sym c.is_gap.ensures ∙ c.if-not-is_gap.true))
 
 pub loop-i-preserved : goal.loop-i-preserved
-loop-i-preserved c = c.loop-i.invariant ∙ all_step gap 0 _ _ c.loop-i-test.true (sym c.is_gap.ensures ∙ not-false _ c.if-not-is_gap.false)
+loop-i-preserved c = c.loop-i.invariant ∙ all_step gap 0 _ _ c.loop-i-test.true (sym c.is_gap.ensures ∙ c.if-not-is_gap.false)
 
 pub returns : goal.returns
 returns c = sym (c.loop-i.invariant ∙ all_end gap _ _ c.loop-i-test.false)

@@ -18,10 +18,10 @@ pub returns-then-b-eq10 : goal.returns-then-b-eq10
 returns-then-b-eq10 c = looked_feed _ _ _ c.loop-i.invariant c.loop-i-test.true c.if-b-eq10.true
 
 pub returns-then-not-is_allowed : goal.returns-then-not-is_allowed
-returns-then-not-is_allowed c = looked_wrong _ _ _ c.loop-i.invariant c.loop-i-test.true c.if-b-eq10.false (sym c.is_allowed.ensures ∙ not-true _ c.if-not-is_allowed.true)
+returns-then-not-is_allowed c = looked_wrong _ _ _ c.loop-i.invariant c.loop-i-test.true c.if-b-eq10.false (sym c.is_allowed.ensures ∙ c.if-not-is_allowed.true)
 
 pub loop-i-preserved : goal.loop-i-preserved
-loop-i-preserved c = looks_on _ _ _ c.loop-i.invariant c.loop-i-test.true c.if-b-eq10.false (sym c.is_allowed.ensures ∙ not-false _ c.if-not-is_allowed.false)
+loop-i-preserved c = looks_on _ _ _ c.loop-i.invariant c.loop-i-test.true c.if-b-eq10.false (sym c.is_allowed.ensures ∙ c.if-not-is_allowed.false)
 
 pub returns : goal.returns
 returns c = looked_all _ _ _ c.loop-i.invariant c.loop-i-test.false

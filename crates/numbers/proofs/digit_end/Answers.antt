@@ -14,10 +14,10 @@ pub loop-i-init : goal.loop-i-init
 loop-i-init c = refl
 
 pub returns-then-not-is_digit : goal.returns-then-not-is_digit
-returns-then-not-is_digit c = runs _ _ _ _ (sym (c.loop-i.invariant ∙ span_out digit 0 _ _ c.loop-i-test.true (sym c.is_digit.ensures ∙ not-true _ c.if-not-is_digit.true)))
+returns-then-not-is_digit c = runs _ _ _ _ (sym (c.loop-i.invariant ∙ span_out digit 0 _ _ c.loop-i-test.true (sym c.is_digit.ensures ∙ c.if-not-is_digit.true)))
 
 pub loop-i-preserved : goal.loop-i-preserved
-loop-i-preserved c = c.loop-i.invariant ∙ span_in digit 0 _ _ c.loop-i-test.true (sym c.is_digit.ensures ∙ not-false _ c.if-not-is_digit.false)
+loop-i-preserved c = c.loop-i.invariant ∙ span_in digit 0 _ _ c.loop-i-test.true (sym c.is_digit.ensures ∙ c.if-not-is_digit.false)
 
 pub returns : goal.returns
 returns c = runs _ _ _ _ (sym (c.loop-i.invariant ∙ span_end digit _ _ c.loop-i-test.false))

@@ -9,10 +9,10 @@ pub returns-in_default : goal.returns-in_default
 returns-in_default c = row_wrong c.args.signed _ _ c.requires.0 c.requires.1 _ c.value_of.ensures c.in_default.is
 
 pub returns-then-not-all_numbers : goal.returns-then-not-all_numbers
-returns-then-not-all_numbers c = row_unnumbered c.args.signed _ _ c.requires.0 c.requires.1 (sym c.all_numbers.ensures ∙ not-true _ c.if-not-all_numbers.true)
+returns-then-not-all_numbers c = row_unnumbered c.args.signed _ _ c.requires.0 c.requires.1 (sym c.all_numbers.ensures ∙ c.if-not-all_numbers.true)
 
 pub returns-then-code-eq0 : goal.returns-then-code-eq0
-returns-then-code-eq0 c = row_beyond c.args.signed _ _ c.requires.0 c.requires.1 _ c.value_of.ensures _ c.in-Coded.is (sym c.all_numbers.ensures ∙ not-false _ c.if-not-all_numbers.false) c.if-code-eq0.true
+returns-then-code-eq0 c = row_beyond c.args.signed _ _ c.requires.0 c.requires.1 _ c.value_of.ensures _ c.in-Coded.is (sym c.all_numbers.ensures ∙ c.if-not-all_numbers.false) c.if-code-eq0.true
 
 pub returns : goal.returns
-returns c = row_values c.args.signed _ _ c.requires.0 c.requires.1 _ c.value_of.ensures _ c.in-Coded.is (sym c.all_numbers.ensures ∙ not-false _ c.if-not-all_numbers.false) c.if-code-eq0.false
+returns c = row_values c.args.signed _ _ c.requires.0 c.requires.1 _ c.value_of.ensures _ c.in-Coded.is (sym c.all_numbers.ensures ∙ c.if-not-all_numbers.false) c.if-code-eq0.false

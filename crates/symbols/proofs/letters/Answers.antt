@@ -12,13 +12,13 @@ pub returns-then-word-gt2 : goal.returns-then-word-gt2
 returns-then-word-gt2 c = sym (letters_long _ _ _ c.if-word-gt2.true)
 
 pub returns-then-not-is_upper : goal.returns-then-not-is_upper
-returns-then-not-is_upper c = sym (letters_low _ _ _ c.if-word-lt1.false c.if-word-gt2.false (sym c.is_upper.ensures ∙ not-true _ c.if-not-is_upper.true))
+returns-then-not-is_upper c = sym (letters_low _ _ _ c.if-word-lt1.false c.if-word-gt2.false (sym c.is_upper.ensures ∙ c.if-not-is_upper.true))
 
 pub returns-then-word-eq1 : goal.returns-then-word-eq1
-returns-then-word-eq1 c = sym (letters_one _ _ _ c.if-word-eq1.true (sym c.is_upper.ensures ∙ not-false _ c.if-not-is_upper.false))
+returns-then-word-eq1 c = sym (letters_one _ _ _ c.if-word-eq1.true (sym c.is_upper.ensures ∙ c.if-not-is_upper.false))
 
 pub returns-then-not-is_lower : goal.returns-then-not-is_lower
-returns-then-not-is_lower c = sym (letters_upper _ _ _ c.if-word-lt1.false c.if-word-gt2.false c.if-word-eq1.false (sym c.is_lower.ensures ∙ not-true _ c.if-not-is_lower.true))
+returns-then-not-is_lower c = sym (letters_upper _ _ _ c.if-word-lt1.false c.if-word-gt2.false c.if-word-eq1.false (sym c.is_lower.ensures ∙ c.if-not-is_lower.true))
 
 pub returns : goal.returns
-returns c = sym (letters_two _ _ _ c.if-word-lt1.false c.if-word-gt2.false c.if-word-eq1.false (sym c.is_upper.ensures ∙ not-false _ c.if-not-is_upper.false) (sym c.is_lower.ensures ∙ not-false _ c.if-not-is_lower.false))
+returns c = sym (letters_two _ _ _ c.if-word-lt1.false c.if-word-gt2.false c.if-word-eq1.false (sym c.is_upper.ensures ∙ c.if-not-is_upper.false) (sym c.is_lower.ensures ∙ c.if-not-is_lower.false))

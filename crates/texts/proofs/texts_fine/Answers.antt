@@ -11,16 +11,16 @@ pub named-requires : goal.named-requires
 named-requires c = text_small _ _ c.text.ensures
 
 pub returns-then-not-named : goal.returns-then-not-named
-returns-then-not-named c = sym (first_out (text_ok _) _ _ c.text.ensures (sym c.named.ensures ∙ not-true _ c.if-not-named.true))
+returns-then-not-named c = sym (first_out (text_ok _) _ _ c.text.ensures (sym c.named.ensures ∙ c.if-not-named.true))
 
 pub named-requires-2 : goal.named-requires-2
 named-requires-2 c = text_small _ _ c.text-2.ensures
 
 pub returns-then-not-named-2 : goal.returns-then-not-named-2
-returns-then-not-named-2 c = sym (second_out (text_ok _) _ _ c.text.ensures (sym c.named.ensures ∙ not-false _ c.if-not-named.false) _ c.text-2.ensures (sym c.named-2.ensures ∙ not-true _ c.if-not-named-2.true))
+returns-then-not-named-2 c = sym (second_out (text_ok _) _ _ c.text.ensures (sym c.named.ensures ∙ c.if-not-named.false) _ c.text-2.ensures (sym c.named-2.ensures ∙ c.if-not-named-2.true))
 
 pub named-requires-3 : goal.named-requires-3
 named-requires-3 c = text_small _ _ c.text-3.ensures
 
 pub returns : goal.returns
-returns c = c.named-3.ensures ∙ sym (third_is (text_ok _) _ _ c.text.ensures (sym c.named.ensures ∙ not-false _ c.if-not-named.false) _ c.text-2.ensures (sym c.named-2.ensures ∙ not-false _ c.if-not-named-2.false) _ c.text-3.ensures)
+returns c = c.named-3.ensures ∙ sym (third_is (text_ok _) _ _ c.text.ensures (sym c.named.ensures ∙ c.if-not-named.false) _ c.text-2.ensures (sym c.named-2.ensures ∙ c.if-not-named-2.false) _ c.text-3.ensures)

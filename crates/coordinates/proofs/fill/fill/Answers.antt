@@ -23,10 +23,10 @@ pub shape_of-positions-then-not-has_row : goal.shape_of-positions-then-not-has_r
 shape_of-positions-then-not-has_row c = c.loop-i.invariant.1 ∙ c.clear.auto.0
 
 pub returns-then-not-has_row : goal.returns-then-not-has_row
-returns-then-not-has_row c = fill_beyond _ _ _ _ c.if-positions-lt-SIZE.false c.clear.ensures _ _ _ c.loop-i.invariant.0 (sym c.has_row.ensures ∙ not-true _ c.if-not-has_row.true) c.loop-i.invariant.2
+returns-then-not-has_row c = fill_beyond _ _ _ _ c.if-positions-lt-SIZE.false c.clear.ensures _ _ _ c.loop-i.invariant.0 (sym c.has_row.ensures ∙ c.if-not-has_row.true) c.loop-i.invariant.2
 
 pub place_row-requires : goal.place_row-requires
-place_row-requires c = sym c.has_row.ensures ∙ not-false _ c.if-not-has_row.false
+place_row-requires c = sym c.has_row.ensures ∙ c.if-not-has_row.false
 
 pub loop-i-smaller : goal.loop-i-smaller
 loop-i-smaller c = omega arith

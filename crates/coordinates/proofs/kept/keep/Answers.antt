@@ -13,19 +13,19 @@ use Rattle.coordinates.proofs.kept.keep.Lts as lts
 
 -- there is room for the row, and its numbers are ones that a row can have
 has : (q : lts.Else-not-is_modest) → has_row (length q.args.store.now) q.args.index ≡ true
-has q = sym q.has_row.ensures ∙ not-false _ q.if-not-has_row.false
+has q = sym q.has_row.ensures ∙ q.if-not-has_row.false
 
 room : (q : lts.Else-not-is_modest) → 4 * q.args.index + 4 ≤ length q.args.store.now
 room q = row_told _ _ (has q)
 
 fine : (q : lts.Else-not-is_modest) → modest q.args.atom q.args.x q.args.y q.args.z ≡ true
-fine q = sym q.is_modest.ensures ∙ not-false _ q.if-not-is_modest.false
+fine q = sym q.is_modest.ensures ∙ q.if-not-is_modest.false
 
 pub returns-then-not-has_row : goal.returns-then-not-has_row
-returns-then-not-has_row c = kept_roomless _ _ _ _ _ _ (sym c.has_row.ensures ∙ not-true _ c.if-not-has_row.true)
+returns-then-not-has_row c = kept_roomless _ _ _ _ _ _ (sym c.has_row.ensures ∙ c.if-not-has_row.true)
 
 pub returns-then-not-is_modest : goal.returns-then-not-is_modest
-returns-then-not-is_modest c = kept_immodest _ _ _ _ _ _ (sym c.is_modest.ensures ∙ not-true _ c.if-not-is_modest.true)
+returns-then-not-is_modest c = kept_immodest _ _ _ _ _ _ (sym c.is_modest.ensures ∙ c.if-not-is_modest.true)
 
 pub overflow_mul-at : goal.overflow_mul-at
 overflow_mul-at c = let h = room c in search rules

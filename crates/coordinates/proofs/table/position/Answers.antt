@@ -12,10 +12,10 @@ use Rattle.coordinates.proofs.table.position.Lts as lts
 
 -- there is a place for the atom
 has : (q : lts.Else-not-has_place) → has_place (length q.args.positions.now) q.args.atom ≡ true
-has q = sym q.has_place.ensures ∙ not-false _ q.if-not-has_place.false
+has q = sym q.has_place.ensures ∙ q.if-not-has_place.false
 
 pub returns-then-not-has_place : goal.returns-then-not-has_place
-returns-then-not-has_place c = no_place _ _ (sym c.has_place.ensures ∙ not-true _ c.if-not-has_place.true)
+returns-then-not-has_place c = no_place _ _ (sym c.has_place.ensures ∙ c.if-not-has_place.true)
 
 pub overflow_sub-at : goal.overflow_sub-at
 overflow_sub-at c = (place_told _ _ (has c)).0

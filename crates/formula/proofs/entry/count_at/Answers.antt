@@ -19,13 +19,13 @@ pub returns-then-not-is_digit : goal.returns-then-not-is_digit
 returns-then-not-is_digit c = tt
 
 pub overflow_sub-count : goal.overflow_sub-count
-overflow_sub-count c = omega (arith, digit_bounds _ (sym c.is_digit.ensures ∙ not-false _ c.if-not-is_digit.false))
+overflow_sub-count c = omega (arith, digit_bounds _ (sym c.is_digit.ensures ∙ c.if-not-is_digit.false))
 
 pub overflow_cast-count : goal.overflow_cast-count
-overflow_cast-count c = omega (arith, (digit_bounds _ (sym c.is_digit.ensures ∙ not-false _ c.if-not-is_digit.false)).1)
+overflow_cast-count c = omega (arith, (digit_bounds _ (sym c.is_digit.ensures ∙ c.if-not-is_digit.false)).1)
 
 pub loop-i-init : goal.loop-i-init
-loop-i-init c = count_starts _ _ c.if-size-at.false (sym c.is_digit.ensures ∙ not-false _ c.if-not-is_digit.false)
+loop-i-init c = count_starts _ _ c.if-size-at.false (sym c.is_digit.ensures ∙ c.if-not-is_digit.false)
 
 pub returns-then-is_gap-2 : goal.returns-then-is_gap-2
 returns-then-is_gap-2 c = count_ends _ _ _ _ c.loop-i.invariant c.loop-i-test.true (sym c.is_gap-then-not-is_digit-2.ensures ∙ c.if-is_gap-2.true)
@@ -43,16 +43,16 @@ pub overflow_mul-count : goal.overflow_mul-count
 overflow_mul-count c = omega (arith, count_short _ _ _ _ c.loop-i.invariant)
 
 pub overflow_sub-count-in-loop-i : goal.overflow_sub-count-in-loop-i
-overflow_sub-count-in-loop-i c = omega (arith, digit_bounds _ (sym c.is_digit-in-loop-i.ensures ∙ not-false _ c.if-not-is_digit-2.false))
+overflow_sub-count-in-loop-i c = omega (arith, digit_bounds _ (sym c.is_digit-in-loop-i.ensures ∙ c.if-not-is_digit-2.false))
 
 pub overflow_cast-count-in-loop-i : goal.overflow_cast-count-in-loop-i
-overflow_cast-count-in-loop-i c = omega (arith, (digit_bounds _ (sym c.is_digit-in-loop-i.ensures ∙ not-false _ c.if-not-is_digit-2.false)).1)
+overflow_cast-count-in-loop-i c = omega (arith, (digit_bounds _ (sym c.is_digit-in-loop-i.ensures ∙ c.if-not-is_digit-2.false)).1)
 
 pub overflow_add-count : goal.overflow_add-count
-overflow_add-count c = omega (arith, count_short _ _ _ _ c.loop-i.invariant, digit_bounds _ (sym c.is_digit-in-loop-i.ensures ∙ not-false _ c.if-not-is_digit-2.false))
+overflow_add-count c = omega (arith, count_short _ _ _ _ c.loop-i.invariant, digit_bounds _ (sym c.is_digit-in-loop-i.ensures ∙ c.if-not-is_digit-2.false))
 
 pub loop-i-preserved : goal.loop-i-preserved
-loop-i-preserved c = count_more _ _ _ _ c.loop-i.invariant c.loop-i-test.true c.if-i-at-gt3.false (sym c.is_digit-in-loop-i.ensures ∙ not-false _ c.if-not-is_digit-2.false)
+loop-i-preserved c = count_more _ _ _ _ c.loop-i.invariant c.loop-i-test.true c.if-i-at-gt3.false (sym c.is_digit-in-loop-i.ensures ∙ c.if-not-is_digit-2.false)
 
 pub returns : goal.returns
 returns c = tt

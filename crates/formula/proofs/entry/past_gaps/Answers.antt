@@ -15,7 +15,7 @@ pub returns-then-not-is_gap : goal.returns-then-not-is_gap
 returns-then-not-is_gap c = c.loop-i.invariant
 
 pub loop-i-preserved : goal.loop-i-preserved
-loop-i-preserved c = gaps_more _ _ _ c.loop-i.invariant c.loop-i-test.true (sym c.is_gap.ensures ∙ not-false _ c.if-not-is_gap.false)
+loop-i-preserved c = gaps_more _ _ _ c.loop-i.invariant c.loop-i-test.true (sym c.is_gap.ensures ∙ c.if-not-is_gap.false)
 
 pub returns : goal.returns
 returns c = c.loop-i.invariant

@@ -18,10 +18,10 @@ pub slice_bounds-blank-start : goal.slice_bounds-blank-start
 slice_bounds-blank-start c = c.next_field-word.ensures.high (omega arith)
 
 pub returns-then-not-blank : goal.returns-then-not-blank
-returns-then-not-blank c = id_more _ _ c.next_field-word.ensures _ c.number.ensures _ c.in-Value.is _ c.blank.ensures (not-true _ c.if-not-blank.true)
+returns-then-not-blank c = id_more _ _ c.next_field-word.ensures _ c.number.ensures _ c.in-Value.is _ c.blank.ensures (c.if-not-blank.true)
 
 pub returns-then-id-eq0 : goal.returns-then-id-eq0
-returns-then-id-eq0 c = id_zero _ _ c.next_field-word.ensures _ c.number.ensures _ c.in-Value.is _ c.blank.ensures (not-false _ c.if-not-blank.false) c.if-id-eq0.true
+returns-then-id-eq0 c = id_zero _ _ c.next_field-word.ensures _ c.number.ensures _ c.in-Value.is _ c.blank.ensures (c.if-not-blank.false) c.if-id-eq0.true
 
 pub returns : goal.returns
-returns c = id_taken _ _ c.next_field-word.ensures _ c.number.ensures _ c.in-Value.is _ c.blank.ensures (not-false _ c.if-not-blank.false) c.if-id-eq0.false
+returns c = id_taken _ _ c.next_field-word.ensures _ c.number.ensures _ c.in-Value.is _ c.blank.ensures (c.if-not-blank.false) c.if-id-eq0.false

@@ -14,7 +14,7 @@ pub returns-then-p : goal.returns-then-p
 returns-then-p c = (λ size b. tt, tt, λ k block t st h. stop_shown k block _ t 9 _ (yes_again st _ (fields_blank _ ∙ sym c.blank.ensures ∙ c.if-blank.false) (h.holding.listed.handed ∙ c.if-p.true)))
 
 pub returns-then-not-is_yes : goal.returns-then-not-is_yes
-returns-then-not-is_yes c = (λ size b. tt, tt, λ k block t st h. stop_shown k block _ t 9 _ (yes_other st _ (fields_blank _ ∙ sym c.blank.ensures ∙ c.if-blank.false) (h.holding.listed.handed ∙ c.if-p.false) (sym c.is_yes.ensures ∙ not-true _ c.if-not-is_yes.true)))
+returns-then-not-is_yes c = (λ size b. tt, tt, λ k block t st h. stop_shown k block _ t 9 _ (yes_other st _ (fields_blank _ ∙ sym c.blank.ensures ∙ c.if-blank.false) (h.holding.listed.handed ∙ c.if-p.false) (sym c.is_yes.ensures ∙ c.if-not-is_yes.true)))
 
 pub returns : goal.returns
-returns c = (λ size b. yes_bounded size _ b, refl, λ k block t st h. go_shown k block _ _ t _ _ (yes_taken st _ (fields_blank _ ∙ sym c.blank.ensures ∙ c.if-blank.false) (h.holding.listed.handed ∙ c.if-p.false) (sym c.is_yes.ensures ∙ not-false _ c.if-not-is_yes.false)) (yes_shown k block _ _ t st h))
+returns c = (λ size b. yes_bounded size _ b, refl, λ k block t st h. go_shown k block _ _ t _ _ (yes_taken st _ (fields_blank _ ∙ sym c.blank.ensures ∙ c.if-blank.false) (h.holding.listed.handed ∙ c.if-p.false) (sym c.is_yes.ensures ∙ c.if-not-is_yes.false)) (yes_shown k block _ _ t st h))

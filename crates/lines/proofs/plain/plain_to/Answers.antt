@@ -19,7 +19,7 @@ pub returns-then-not-all_plain : goal.returns-then-not-all_plain
 returns-then-not-all_plain c = c.loop-i.invariant
 
 pub loop-i-preserved : goal.loop-i-preserved
-loop-i-preserved c = looks_far _ _ _ _ c.loop-i.invariant (omega arith) (omega arith) (sym c.all_plain.ensures ∙ not-false _ c.if-not-all_plain.false)
+loop-i-preserved c = looks_far _ _ _ _ c.loop-i.invariant (omega arith) (omega arith) (sym c.all_plain.ensures ∙ c.if-not-all_plain.false)
 
 pub returns : goal.returns
 returns c = c.loop-i.invariant

@@ -6,7 +6,7 @@ use borrow.Author.Rules.{rules}
 use Rattle.lines.proofs.plain.plain_too.Goals as goal
 
 pub returns-then-not-is_plain : goal.returns-then-not-is_plain
-returns-then-not-is_plain c = plain_out _ c.args.before (sym c.is_plain.ensures ∙ not-true _ c.if-not-is_plain.true)
+returns-then-not-is_plain c = plain_out _ c.args.before (sym c.is_plain.ensures ∙ c.if-not-is_plain.true)
 
 pub returns : goal.returns
-returns c = plain_in _ c.args.before (sym c.is_plain.ensures ∙ not-false _ c.if-not-is_plain.false)
+returns c = plain_in _ c.args.before (sym c.is_plain.ensures ∙ c.if-not-is_plain.false)

@@ -28,7 +28,7 @@ pub tail_at-requires : goal.tail_at-requires
 tail_at-requires c = omega (arith, (count c.before.before.before.before.before.before).high)
 
 pub returns-then-is_lower : goal.returns-then-is_lower
-returns-then-is_lower c = atom_two _ _ _ _ _ _ (count c.before.before.before.before.before.before.before.before.before.before) (omega arith) (sym c.is_upper.ensures ∙ not-false _ c.if-not-is_upper.false) (sym c.is_lower.ensures ∙ c.if-is_lower.true) (tail_told _ _ _ c.tail_at.ensures _ _ c.in-Ends.is)
+returns-then-is_lower c = atom_two _ _ _ _ _ _ (count c.before.before.before.before.before.before.before.before.before.before) (omega arith) (sym c.is_upper.ensures ∙ c.if-not-is_upper.false) (sym c.is_lower.ensures ∙ c.if-is_lower.true) (tail_told _ _ _ c.tail_at.ensures _ _ c.in-Ends.is)
 
 pub overflow_add-from-2 : goal.overflow_add-from-2
 overflow_add-from-2 c = omega (arith, (count c.before.before.before.before.before.before).high)
@@ -37,4 +37,4 @@ pub tail_at-requires-2 : goal.tail_at-requires-2
 tail_at-requires-2 c = omega (arith, (count c.before.before.before.before.before.before).high)
 
 pub returns : goal.returns
-returns c = atom_one _ _ _ _ _ _ (count c.before.before.before.before.before.before.before.before.before.before) (omega arith) (sym c.is_upper.ensures ∙ not-false _ c.if-not-is_upper.false) (tail_told _ _ _ c.tail_at-2.ensures _ _ c.in-Ends-tail_at.is)
+returns c = atom_one _ _ _ _ _ _ (count c.before.before.before.before.before.before.before.before.before.before) (omega arith) (sym c.is_upper.ensures ∙ c.if-not-is_upper.false) (tail_told _ _ _ c.tail_at-2.ensures _ _ c.in-Ends-tail_at.is)

@@ -20,7 +20,7 @@ pub overflow_mul-value : goal.overflow_mul-value
 overflow_mul-value c = omega (arith, so_far_room _ _ _ _ c.loop-to.invariant.1 c.loop-to-test.true)
 
 pub digit_value-requires : goal.digit_value-requires
-digit_value-requires c = sym c.is_digit.ensures ∙ not-false _ c.if-not-is_digit.false
+digit_value-requires c = sym c.is_digit.ensures ∙ c.if-not-is_digit.false
 
 pub overflow_add-value : goal.overflow_add-value
 overflow_add-value c = omega (arith, so_far_room _ _ _ _ c.loop-to.invariant.1 c.loop-to-test.true, c.digit_value.ensures.1)
@@ -32,7 +32,7 @@ pub loop-to-smaller : goal.loop-to-smaller
 loop-to-smaller c = omega (arith, c.loop-to-test.true)
 
 pub loop-to-preserved : goal.loop-to-preserved
-loop-to-preserved c = (refl, so_far_more _ _ _ _ _ c.loop-to.invariant.1 c.requires c.loop-to-test.true (sym c.is_digit.ensures ∙ not-false _ c.if-not-is_digit.false) c.digit_value.ensures.0)
+loop-to-preserved c = (refl, so_far_more _ _ _ _ _ c.loop-to.invariant.1 c.requires c.loop-to-test.true (sym c.is_digit.ensures ∙ c.if-not-is_digit.false) c.digit_value.ensures.0)
 
 pub returns : goal.returns
 returns c = digits_are _ _ _ _ c.loop-to.invariant.1

@@ -12,13 +12,13 @@ use Rattle.quick.proofs.parts.number_at.Goals as goal
 use Rattle.quick.proofs.parts.number_at.Lts as lts
 
 first-digit : (q : lts.Else-not-is_digit) → digit (get_or q.args.block.now q.args.at 0) ≡ true
-first-digit q = sym q.is_digit.ensures ∙ not-false _ q.if-not-is_digit.false
+first-digit q = sym q.is_digit.ensures ∙ q.if-not-is_digit.false
 
 second-digit : (q : lts.Else-not-is_digit-2) → digit (get_or q.args.block.now (q.args.at + 1) 0) ≡ true
-second-digit q = sym q.is_digit-2.ensures ∙ not-false _ q.if-not-is_digit-2.false
+second-digit q = sym q.is_digit-2.ensures ∙ q.if-not-is_digit-2.false
 
 third-digit : (q : lts.Else-not-is_digit-3) → digit (get_or q.args.block.now (q.args.at + 2) 0) ≡ true
-third-digit q = sym q.is_digit-3.ensures ∙ not-false _ q.if-not-is_digit-3.false
+third-digit q = sym q.is_digit-3.ensures ∙ q.if-not-is_digit-3.false
 
 pub digit_value-units-requires : goal.digit_value-units-requires
 digit_value-units-requires c = first-digit c

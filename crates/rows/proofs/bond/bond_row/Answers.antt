@@ -35,8 +35,8 @@ returns-in_default-bond_kind c = record { is = ap as_answer (no_letter 2 1 "SDTQ
 
 pub returns-then-not-at_end : goal.returns-then-not-at_end
 unfolding row_shape
-returns-then-not-at_end c = record { is = ap as_answer (no_last 2 1 "SDTQA" nothing_more (line_of c.before.before.before.before.before.before.before) _ (front c.before.before.before.before.before.before.before).are _ (front c.before.before.before.before.before.before.before).behind _ c.next_field-field.ensures 6 _ c.bond_kind.ensures _ c.in-Value.is (end_none (fields (drop c.next_field-field.result.to (line_of c.before.before.before.before.before.before.before))) (sym c.at_end.ensures ∙ not-true _ c.if-not-at_end.true))); small = tt }
+returns-then-not-at_end c = record { is = ap as_answer (no_last 2 1 "SDTQA" nothing_more (line_of c.before.before.before.before.before.before.before) _ (front c.before.before.before.before.before.before.before).are _ (front c.before.before.before.before.before.before.before).behind _ c.next_field-field.ensures 6 _ c.bond_kind.ensures _ c.in-Value.is (end_none (fields (drop c.next_field-field.result.to (line_of c.before.before.before.before.before.before.before))) (sym c.at_end.ensures ∙ c.if-not-at_end.true))); small = tt }
 
 pub returns : goal.returns
 unfolding row_shape
-returns c = let s = c.bond_kind.ensures in record { is = ap as_answer (row_is 2 1 "SDTQA" nothing_more (line_of c.before.before.before.before.before.before.before) _ (front c.before.before.before.before.before.before.before).are _ (front c.before.before.before.before.before.before.before).behind _ c.next_field-field.ensures 6 _ s _ c.in-Value.is 0 (end_some (fields (drop c.next_field-field.result.to (line_of c.before.before.before.before.before.before.before))) (sym c.at_end.ensures ∙ not-false _ c.if-not-at_end.false))); small = ((front c.before.before.before.before.before.before.before).one, (front c.before.before.before.before.before.before.before).other, s.small _ c.in-Value.is) }
+returns c = let s = c.bond_kind.ensures in record { is = ap as_answer (row_is 2 1 "SDTQA" nothing_more (line_of c.before.before.before.before.before.before.before) _ (front c.before.before.before.before.before.before.before).are _ (front c.before.before.before.before.before.before.before).behind _ c.next_field-field.ensures 6 _ s _ c.in-Value.is 0 (end_some (fields (drop c.next_field-field.result.to (line_of c.before.before.before.before.before.before.before))) (sym c.at_end.ensures ∙ c.if-not-at_end.false))); small = ((front c.before.before.before.before.before.before.before).one, (front c.before.before.before.before.before.before.before).other, s.small _ c.in-Value.is) }

@@ -9,7 +9,7 @@ pub returns-then-from-to : goal.returns-then-from-to
 returns-then-from-to c = c.next_field-field.ensures.none c.if-from-to.true
 
 pub returns-then-not-at_end : goal.returns-then-not-at_end
-returns-then-not-at_end c = more_left _ _ _ c.next_field-field.ensures c.if-from-to.false (sym c.at_end.ensures ∙ not-true _ c.if-not-at_end.true)
+returns-then-not-at_end c = more_left _ _ _ c.next_field-field.ensures c.if-from-to.false (sym c.at_end.ensures ∙ c.if-not-at_end.true)
 
 pub returns : goal.returns
-returns c = one_left _ _ _ c.next_field-field.ensures c.if-from-to.false (sym c.at_end.ensures ∙ not-false _ c.if-not-at_end.false) c.requires
+returns c = one_left _ _ _ c.next_field-field.ensures c.if-from-to.false (sym c.at_end.ensures ∙ c.if-not-at_end.false) c.requires

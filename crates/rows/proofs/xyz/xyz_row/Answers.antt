@@ -58,7 +58,7 @@ pub returns-in_default-signed_at-3 : goal.returns-in_default-signed_at-3
 returns-in_default-signed_at-3 c = no_z _ _ _ (atom (of-x (of-y c.before.before.before))) _ _ (x-told (of-y c.before.before.before)) _ _ (y-told c.before.before.before) (lifted_none _ _ _ c.signed_at-3.ensures c.in_default-signed_at-3.is)
 
 pub returns-then-not-at_end : goal.returns-then-not-at_end
-returns-then-not-at_end c = let m = of-z c.before.before in row_long _ _ _ (atom (of-x (of-y m))) _ _ (x-told (of-y m)) _ _ (y-told m) _ _ (z-told c.before.before) (sym c.at_end.ensures ∙ not-true _ c.if-not-at_end.true)
+returns-then-not-at_end c = let m = of-z c.before.before in row_long _ _ _ (atom (of-x (of-y m))) _ _ (x-told (of-y m)) _ _ (y-told m) _ _ (z-told c.before.before) (sym c.at_end.ensures ∙ c.if-not-at_end.true)
 
 pub returns : goal.returns
-returns c = let m = of-z c.before.before in row_told _ _ _ (atom (of-x (of-y m))) _ _ (x-told (of-y m)) _ _ (y-told m) _ _ (z-told c.before.before) (sym c.at_end.ensures ∙ not-false _ c.if-not-at_end.false)
+returns c = let m = of-z c.before.before in row_told _ _ _ (atom (of-x (of-y m))) _ _ (x-told (of-y m)) _ _ (y-told m) _ _ (z-told c.before.before) (sym c.at_end.ensures ∙ c.if-not-at_end.false)

@@ -9,25 +9,25 @@ use borrow.Author.Rules.{rules}
 use Rattle.sorted.proofs.keyed.bond_joined.Goals as goal
 
 pub returns-then-not-region_fits : goal.returns-then-not-region_fits
-returns-then-not-region_fits c = (refl, same_leaves _ _, λ long few atoms. absurd (fits_not _ _ _ _ _ (sym c.region_fits.ensures ∙ not-true _ c.if-not-region_fits.true) long few atoms))
+returns-then-not-region_fits c = (refl, same_leaves _ _, λ long few atoms. absurd (fits_not _ _ _ _ _ (sym c.region_fits.ensures ∙ c.if-not-region_fits.true) long few atoms))
 
 pub returns-then-kind-gt5 : goal.returns-then-kind-gt5
 returns-then-kind-gt5 c = (refl, same_leaves _ _, λ long few atoms small. absurd (omega (arith, small)))
 
 pub overflow_mul-key : goal.overflow_mul-key
-overflow_mul-key c = let a = c.args in one_fits _ _ (fits_parts (length a.region.now) 1024 a.count 512 a.atoms (sym c.region_fits.ensures ∙ not-false _ c.if-not-region_fits.false)).2 (order_first _ _ _ (sym c.is_ordered.ensures ∙ c.if-is_ordered.true))
+overflow_mul-key c = let a = c.args in one_fits _ _ (fits_parts (length a.region.now) 1024 a.count 512 a.atoms (sym c.region_fits.ensures ∙ c.if-not-region_fits.false)).2 (order_first _ _ _ (sym c.is_ordered.ensures ∙ c.if-is_ordered.true))
 
 pub overflow_add-key : goal.overflow_add-key
-overflow_add-key c = let a = c.args in two_fits _ _ _ (fits_parts (length a.region.now) 1024 a.count 512 a.atoms (sym c.region_fits.ensures ∙ not-false _ c.if-not-region_fits.false)).2 (order_first _ _ _ (sym c.is_ordered.ensures ∙ c.if-is_ordered.true)) (order_second _ _ _ (sym c.is_ordered.ensures ∙ c.if-is_ordered.true))
+overflow_add-key c = let a = c.args in two_fits _ _ _ (fits_parts (length a.region.now) 1024 a.count 512 a.atoms (sym c.region_fits.ensures ∙ c.if-not-region_fits.false)).2 (order_first _ _ _ (sym c.is_ordered.ensures ∙ c.if-is_ordered.true)) (order_second _ _ _ (sym c.is_ordered.ensures ∙ c.if-is_ordered.true))
 
 pub join-requires : goal.join-requires
-join-requires c = let f = fits_parts _ _ _ _ c.args.atoms (sym c.region_fits.ensures ∙ not-false _ c.if-not-region_fits.false) in (f.0, f.1, omega arith)
+join-requires c = let f = fits_parts _ _ _ _ c.args.atoms (sym c.region_fits.ensures ∙ c.if-not-region_fits.false) in (f.0, f.1, omega arith)
 
 pub returns-then-is_ordered : goal.returns-then-is_ordered
 returns-then-is_ordered c = let a = c.join.ensures in (a.0, a.3, λ long few atoms small. (a.1, shows_ordered _ _ _ _ _ _ _ _ _ _ atoms (sym c.is_ordered.ensures ∙ c.if-is_ordered.true) a.2))
 
 pub two_atoms-requires : goal.two_atoms-requires
-two_atoms-requires c = let f = fits_parts _ _ _ _ _ (sym c.region_fits.ensures ∙ not-false _ c.if-not-region_fits.false) in (f.0, f.1, omega arith, f.2)
+two_atoms-requires c = let f = fits_parts _ _ _ _ _ (sym c.region_fits.ensures ∙ c.if-not-region_fits.false) in (f.0, f.1, omega arith, f.2)
 
 pub returns : goal.returns
 returns c = let a = c.two_atoms.ensures in (a.0, a.3, λ long few atoms small. (a.1, a.2))

@@ -10,7 +10,7 @@ pub slice_bounds-is_title_line-end : goal.slice_bounds-is_title_line-end
 slice_bounds-is_title_line-end c = omega (arith, c.line_end-end.ensures.high (omega arith))
 
 pub returns-then-not-is_title_line : goal.returns-then-not-is_title_line
-returns-then-not-is_title_line c = title_other _ _ c.line_end-end.ensures.is (sym c.is_title_line.ensures ∙ not-true _ c.if-not-is_title_line.true)
+returns-then-not-is_title_line c = title_other _ _ c.line_end-end.ensures.is (sym c.is_title_line.ensures ∙ c.if-not-is_title_line.true)
 
 pub slice_bounds-value_at-end : goal.slice_bounds-value_at-end
 slice_bounds-value_at-end c = omega (arith, c.line_end-end.ensures.high (omega arith))
@@ -19,10 +19,10 @@ pub slice_bounds-text-end : goal.slice_bounds-text-end
 slice_bounds-text-end c = omega (arith, c.text_end-to.ensures.high (c.line_end-end.ensures.high (omega arith)))
 
 pub overflow_add-result : goal.overflow_add-result
-overflow_add-result c = let k = title_kept _ _ c.line_end-end.ensures.is (sym c.is_title_line.ensures ∙ not-false _ c.if-not-is_title_line.false) _ _ c.value_at-from.ensures c.text_end-to.ensures _ c.trimmed-kept.ensures in omega (arith, k.order, k.high)
+overflow_add-result c = let k = title_kept _ _ c.line_end-end.ensures.is (sym c.is_title_line.ensures ∙ c.if-not-is_title_line.false) _ _ c.value_at-from.ensures c.text_end-to.ensures _ c.trimmed-kept.ensures in omega (arith, k.order, k.high)
 
 pub overflow_add-result-2 : goal.overflow_add-result-2
-overflow_add-result-2 c = let k = title_kept _ _ c.line_end-end.ensures.is (sym c.is_title_line.ensures ∙ not-false _ c.if-not-is_title_line.false) _ _ c.value_at-from.ensures c.text_end-to.ensures _ c.trimmed-kept.ensures in omega (arith, k.order, k.high)
+overflow_add-result-2 c = let k = title_kept _ _ c.line_end-end.ensures.is (sym c.is_title_line.ensures ∙ c.if-not-is_title_line.false) _ _ c.value_at-from.ensures c.text_end-to.ensures _ c.trimmed-kept.ensures in omega (arith, k.order, k.high)
 
 pub returns : goal.returns
-returns c = title_kept _ _ c.line_end-end.ensures.is (sym c.is_title_line.ensures ∙ not-false _ c.if-not-is_title_line.false) _ _ c.value_at-from.ensures c.text_end-to.ensures _ c.trimmed-kept.ensures
+returns c = title_kept _ _ c.line_end-end.ensures.is (sym c.is_title_line.ensures ∙ c.if-not-is_title_line.false) _ _ c.value_at-from.ensures c.text_end-to.ensures _ c.trimmed-kept.ensures

@@ -10,10 +10,10 @@ pub returns-then-file-i-ne35 : goal.returns-then-file-i-ne35
 returns-then-file-i-ne35 c = sym (no_hash _ _ _ c.requires c.if-file-i-ne35.true)
 
 pub returns-then-not-turns : goal.returns-then-not-turns
-returns-then-not-turns c = sym (any_hash _ _ _ c.requires c.if-file-i-ne35.false (not-true _ c.if-not-turns.true))
+returns-then-not-turns c = sym (any_hash _ _ _ c.requires c.if-file-i-ne35.false (c.if-not-turns.true))
 
 pub returns-then-file-i-le2 : goal.returns-then-file-i-le2
 returns-then-file-i-le2 c = sym (short_hash _ _ _ c.requires c.if-file-i-ne35.false c.if-file-i-le2.true)
 
 pub returns : goal.returns
-returns c = ap not c.is_foreign.ensures ∙ sym (third_hash _ _ _ c.requires c.if-file-i-ne35.false (not-false _ c.if-not-turns.false))
+returns c = ap not c.is_foreign.ensures ∙ sym (third_hash _ _ _ c.requires c.if-file-i-ne35.false (c.if-not-turns.false))

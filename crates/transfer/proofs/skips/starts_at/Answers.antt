@@ -6,10 +6,10 @@ use borrow.Author.Rules.{rules}
 use Rattle.transfer.proofs.skips.starts_at.Goals as goal
 
 pub returns-then-not-heeded : goal.returns-then-not-heeded
-returns-then-not-heeded c = sym (start_other _ _ _ _ (sym c.heeded.ensures ∙ not-true _ c.if-not-heeded.true))
+returns-then-not-heeded c = sym (start_other _ _ _ _ (sym c.heeded.ensures ∙ c.if-not-heeded.true))
 
 pub returns-then-i-at : goal.returns-then-i-at
-returns-then-i-at c = sym (start_first _ _ _ _ (sym c.heeded.ensures ∙ not-false _ c.if-not-heeded.false) c.if-i-at.true)
+returns-then-i-at c = sym (start_first _ _ _ _ (sym c.heeded.ensures ∙ c.if-not-heeded.false) c.if-i-at.true)
 
 pub returns : goal.returns
-returns c = sym (start_behind _ _ _ _ (sym c.heeded.ensures ∙ not-false _ c.if-not-heeded.false) c.if-i-at.false)
+returns c = sym (start_behind _ _ _ _ (sym c.heeded.ensures ∙ c.if-not-heeded.false) c.if-i-at.false)
