@@ -12,26 +12,23 @@ use Rattle.factor.proofs.PartLaws.{few_decimals}
 use Rattle.factor.proofs.FactorLaws.{no_factor, zero_factor, some_factor}
 use borrow.Author.Rules.{rules}
 use Rattle.factor.proofs.factor_of.Goals as goal
-use Rattle.factor.proofs.factor_of.Lts as lts
-
--- the word, and the digits that were told
-abbrev word_of : lts.In-Value → List ℕ
-word_of c = c.args.word.now
-
-digits_are : (c : lts.In-Value) → digits_of 9 (unpointed_of (word_of c)) ≡ some c.in-Value.digits
-digits_are c = sym c.digits_of.ensures.is ∙ ap shown_number c.in-Value.is
-
-few : (c : lts.In-Value) → length (word_of c) - c.parts_of-parts.result.behind ≤ 9
-few c = few_decimals _ _ c.parts_of-parts.ensures _ (digits_are c)
 
 pub returns-in_default : goal.returns-in_default
 returns-in_default c = no_factor _ (sym c.digits_of.ensures.is ∙ ap shown_number c.in_default.is)
 
 pub returns-then-digits-eq0 : goal.returns-then-digits-eq0
-returns-then-digits-eq0 c = zero_factor _ _ (digits_are c.before) c.if-digits-eq0.true
+returns-then-digits-eq0 c =
+    let digits_are : digits_of 9 (unpointed_of c.args.word.now) ≡ some c.in-Value.digits = sym c.digits_of.ensures.is ∙ ap shown_number c.in-Value.is in
+    zero_factor _ _ digits_are c.if-digits-eq0.true
 
 pub overflow_cast-decimals : goal.overflow_cast-decimals
-overflow_cast-decimals c = record { fits = omega (arith, few c.before.before) }
+overflow_cast-decimals c =
+    let digits_are : digits_of 9 (unpointed_of c.args.word.now) ≡ some c.in-Value.digits = sym c.digits_of.ensures.is ∙ ap shown_number c.in-Value.is in
+    let few : length c.args.word.now - c.parts_of-parts.result.behind ≤ 9 = few_decimals _ _ c.parts_of-parts.ensures _ digits_are in
+    record { fits = omega (arith, few) }
 
 pub returns : goal.returns
-returns c = some_factor _ _ (digits_are c.before.before.before) c.if-digits-eq0.false _ c.parts_of-parts.ensures.left (c.digits_of.ensures.small _ c.in-Value.is) (few c.before.before.before) _ c.factor_from.ensures
+returns c =
+    let digits_are : digits_of 9 (unpointed_of c.args.word.now) ≡ some c.in-Value.digits = sym c.digits_of.ensures.is ∙ ap shown_number c.in-Value.is in
+    let few : length c.args.word.now - c.parts_of-parts.result.behind ≤ 9 = few_decimals _ _ c.parts_of-parts.ensures _ digits_are in
+    some_factor _ _ digits_are c.if-digits-eq0.false _ c.parts_of-parts.ensures.left (c.digits_of.ensures.small _ c.in-Value.is) few _ c.factor_from.ensures

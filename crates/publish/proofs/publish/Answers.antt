@@ -6,11 +6,6 @@ use Rattle.gather.specs.Progress.{Bounded}
 use Rattle.header.proofs.GuardLaws.{tells_no, tells_yes}
 use borrow.Author.Rules.{rules}
 use Rattle.publish.proofs.publish.Goals as goal
-use Rattle.publish.proofs.publish.Lts as lts
-
--- progress is one that a reading leaves, where the guard let it through
-told : (e : lts.Else-not-is_bounded) → Bounded (length e.args.block.now) e.args.p
-told e = tells_yes e.is_bounded.result (Bounded _ _) e.is_bounded.ensures e.if-not-is_bounded.false
 
 pub returns-then-table-lt-SIZE : goal.returns-then-table-lt-SIZE
 returns-then-table-lt-SIZE c = (λ n. refl, λ k st h. absurd (omega (arith, h)))
@@ -25,7 +20,11 @@ pub returns-then-not-is_bounded : goal.returns-then-not-is_bounded
 returns-then-not-is_bounded c = (λ n. refl, λ k st h l s b. absurd (tells_no c.is_bounded.result (Bounded _ _) c.is_bounded.ensures c.if-not-is_bounded.true b))
 
 pub put_structure-requires : goal.put_structure-requires
-put_structure-requires c = (search rules, search rules, told c.before, search rules)
+put_structure-requires c =
+    let told : Bounded (length c.args.block.now) c.args.p = tells_yes c.is_bounded.result (Bounded _ _) c.is_bounded.ensures c.if-not-is_bounded.false in
+    (search rules, search rules, told, search rules)
 
 pub returns : goal.returns
-returns c = (λ n. absurd (n (omega arith, omega arith, omega arith, told c.before.before.before)), λ k st h l s b o m. c.put_structure.ensures k st o m)
+returns c =
+    let told : Bounded (length c.args.block.now) c.args.p = tells_yes c.is_bounded.result (Bounded _ _) c.is_bounded.ensures c.if-not-is_bounded.false in
+    (λ n. absurd (n (omega arith, omega arith, omega arith, told)), λ k st h l s b o m. c.put_structure.ensures k st o m)

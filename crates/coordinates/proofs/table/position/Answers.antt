@@ -8,32 +8,41 @@ use Rattle.coordinates.specs.ShownPositions.{has_place}
 use Rattle.coordinates.proofs.PlaceLaws.{place_told, place_room, no_place, read_at, read_not}
 use borrow.Author.Rules.{rules}
 use Rattle.coordinates.proofs.table.position.Goals as goal
-use Rattle.coordinates.proofs.table.position.Lts as lts
-
--- there is a place for the atom
-has : (q : lts.Else-not-has_place) → has_place (length q.args.positions.now) q.args.atom ≡ true
-has q = sym q.has_place.ensures ∙ q.if-not-has_place.false
 
 pub returns-then-not-has_place : goal.returns-then-not-has_place
 returns-then-not-has_place c = no_place _ _ (sym c.has_place.ensures ∙ c.if-not-has_place.true)
 
 pub overflow_sub-at : goal.overflow_sub-at
-overflow_sub-at c = (place_told _ _ (has c)).0
+overflow_sub-at c =
+    let has : has_place (length c.args.positions.now) c.args.atom ≡ true = sym c.has_place.ensures ∙ c.if-not-has_place.false in
+    (place_told _ _ has).0
 
 pub bounds-positions-at : goal.bounds-positions-at
-bounds-positions-at c = let h = place_room _ _ (has c.before) in omega arith
+bounds-positions-at c =
+    let has : has_place (length c.args.positions.now) c.args.atom ≡ true = sym c.has_place.ensures ∙ c.if-not-has_place.false in
+    let h = place_room _ _ has in omega arith
 
 pub bounds-positions-at-then-positions-at : goal.bounds-positions-at-then-positions-at
-bounds-positions-at-then-positions-at c = let h = place_room _ _ (has c.before.before.before) in omega arith
+bounds-positions-at-then-positions-at c =
+    let has : has_place (length c.args.positions.now) c.args.atom ≡ true = sym c.has_place.ensures ∙ c.if-not-has_place.false in
+    let h = place_room _ _ has in omega arith
 
 pub bounds-positions-at-then-positions-at-2 : goal.bounds-positions-at-then-positions-at-2
-bounds-positions-at-then-positions-at-2 c = let h = place_room _ _ (has c.before.before.before.before) in omega arith
+bounds-positions-at-then-positions-at-2 c =
+    let has : has_place (length c.args.positions.now) c.args.atom ≡ true = sym c.has_place.ensures ∙ c.if-not-has_place.false in
+    let h = place_room _ _ has in omega arith
 
 pub bounds-positions-at-then-positions-at-3 : goal.bounds-positions-at-then-positions-at-3
-bounds-positions-at-then-positions-at-3 c = let h = place_room _ _ (has c.before.before.before.before.before) in omega arith
+bounds-positions-at-then-positions-at-3 c =
+    let has : has_place (length c.args.positions.now) c.args.atom ≡ true = sym c.has_place.ensures ∙ c.if-not-has_place.false in
+    let h = place_room _ _ has in omega arith
 
 pub returns-then-positions-at : goal.returns-then-positions-at
-returns-then-positions-at c = read_at _ _ (has c.before.before.before.before.before) c.if-positions-at.true
+returns-then-positions-at c =
+    let has : has_place (length c.args.positions.now) c.args.atom ≡ true = sym c.has_place.ensures ∙ c.if-not-has_place.false in
+    read_at _ _ has c.if-positions-at.true
 
 pub returns : goal.returns
-returns c = read_not _ _ (has c.before.before) c.if-positions-at.false
+returns c =
+    let has : has_place (length c.args.positions.now) c.args.atom ≡ true = sym c.has_place.ensures ∙ c.if-not-has_place.false in
+    read_not _ _ has c.if-positions-at.false

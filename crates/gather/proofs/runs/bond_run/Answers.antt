@@ -9,10 +9,6 @@ use Rattle.quick.proofs.RowLaws.{bond_told}
 use Rattle.gather.specs.Runs.{BondsRan}
 use Rattle.gather.proofs.RunLaws.{bonds_start, bonds_more, bonds_long, bonds_put, bonds_stay}
 use Rattle.gather.proofs.runs.bond_run.Goals as goal
-use Rattle.gather.proofs.runs.bond_run.Lts as lts
-
-row : (q : lts.In-Values) → BondIs q.args.block.now q.loop-place.place q.in-Values.first q.in-Values.second q.in-Values.kind q.in-Values.next
-row q = bond_told _ _ _ q.quick_bond.ensures _ _ _ _ q.in-Values.is
 
 pub returns-then-atoms-gt-ATOMS : goal.returns-then-atoms-gt-ATOMS
 returns-then-atoms-gt-ATOMS c = (c.requires, bonds_start _ _ _ _ _)
@@ -39,10 +35,14 @@ pub returns-in_default-after : goal.returns-in_default-after
 returns-in_default-after c = (bonds_put c.loop-place.scratch c.bond_joined-after.new.region c.loop-place.invariant.0 c.bond_joined-after.ensures.0, bonds_stay _ _ _ _ _ _ _ _ (c.bond_joined-after.ensures.1 _ c.in_default-after.is) c.loop-place.invariant.2)
 
 pub loop-place-smaller : goal.loop-place-smaller
-loop-place-smaller c = let r = row c.before.before.before.before.before.before.before in omega (arith, r.line.low, r.line.high)
+loop-place-smaller c =
+    let row : BondIs c.args.block.now c.loop-place.place c.in-Values.first c.in-Values.second c.in-Values.kind c.in-Values.next = bond_told _ _ _ c.quick_bond.ensures _ _ _ _ c.in-Values.is in
+    let r = row in omega (arith, r.line.low, r.line.high)
 
 pub loop-place-preserved : goal.loop-place-preserved
-loop-place-preserved c = let s = c.bond_joined-after.ensures.2 (bonds_long c.loop-place.scratch c.loop-place.invariant.0) c.loop-place.invariant.1 c.if-atoms-gt-ATOMS.false (row c.before.before.before.before.before.before.before).small in (bonds_put c.loop-place.scratch c.bond_joined-after.new.region c.loop-place.invariant.0 c.bond_joined-after.ensures.0, s.0 _ c.in-Kept.is, bonds_more _ _ _ _ _ _ _ _ c.loop-place.invariant.2 _ _ _ _ (row c.before.before.before.before.before.before.before) _ _ s.1 _ c.in-Kept.is c.loop-place.invariant.1 (s.0 _ c.in-Kept.is))
+loop-place-preserved c =
+    let row : BondIs c.args.block.now c.loop-place.place c.in-Values.first c.in-Values.second c.in-Values.kind c.in-Values.next = bond_told _ _ _ c.quick_bond.ensures _ _ _ _ c.in-Values.is in
+    let s = c.bond_joined-after.ensures.2 (bonds_long c.loop-place.scratch c.loop-place.invariant.0) c.loop-place.invariant.1 c.if-atoms-gt-ATOMS.false row.small in (bonds_put c.loop-place.scratch c.bond_joined-after.new.region c.loop-place.invariant.0 c.bond_joined-after.ensures.0, s.0 _ c.in-Kept.is, bonds_more _ _ _ _ _ _ _ _ c.loop-place.invariant.2 _ _ _ _ row _ _ s.1 _ c.in-Kept.is c.loop-place.invariant.1 (s.0 _ c.in-Kept.is))
 
 pub shape_of-scratch : goal.shape_of-scratch
 shape_of-scratch c = c.loop-place.invariant.0 ∙ sym c.requires

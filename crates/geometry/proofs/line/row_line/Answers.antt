@@ -8,17 +8,6 @@ use Rattle.rows.specs.Raised.{XyzIs}
 use Rattle.rows.proofs.XyzLaws.{xyz_told, xyz_none}
 use Rattle.geometry.proofs.LineLaws.{row_blank, row_wrong, row_unlisted, row_late, row_kept}
 use Rattle.geometry.proofs.line.row_line.Goals as goal
-use Rattle.geometry.proofs.line.row_line.Lts as lts
-
--- the line, that it is not blank, and the row that it says
-abbrev line_of : lts.In-Values → List ℕ
-line_of q = q.args.line.now
-
-inked : (q : lts.In-Values) → is_nil (fields (line_of q)) ≡ false
-inked q = sym q.is_bare.ensures ∙ q.if-is_bare.false
-
-row : (q : lts.In-Values) → XyzIs (xyz_shape (fields (line_of q))) q.in-Values.atom q.in-Values.x q.in-Values.y q.in-Values.z
-row q = xyz_told _ _ q.xyz_row.ensures _ _ _ _ q.in-Values.is
 
 pub returns-then-is_bare : goal.returns-then-is_bare
 returns-then-is_bare c = row_blank _ _ _ _ (sym c.is_bare.ensures ∙ c.if-is_bare.true)
@@ -27,13 +16,25 @@ pub returns-in_default : goal.returns-in_default
 returns-in_default c = row_wrong _ _ _ _ (sym c.is_bare.ensures ∙ c.if-is_bare.false) (xyz_none _ _ c.xyz_row.ensures _ c.in_default.is)
 
 pub returns-then-atom-lt1 : goal.returns-then-atom-lt1
-returns-then-atom-lt1 c = row_unlisted _ _ _ _ (inked c.before) _ _ _ _ (row c.before) (within_low 1 _ _ c.if-atom-lt1.true)
+returns-then-atom-lt1 c =
+    let inked : is_nil (fields c.args.line.now) ≡ false = sym c.is_bare.ensures ∙ c.if-is_bare.false in
+    let row : XyzIs (xyz_shape (fields c.args.line.now)) c.in-Values.atom c.in-Values.x c.in-Values.y c.in-Values.z = xyz_told _ _ c.xyz_row.ensures _ _ _ _ c.in-Values.is in
+    row_unlisted _ _ _ _ inked _ _ _ _ row (within_low 1 _ _ c.if-atom-lt1.true)
 
 pub returns-then-atoms-atom : goal.returns-then-atoms-atom
-returns-then-atoms-atom c = row_unlisted _ _ _ _ (inked c.before.before) _ _ _ _ (row c.before.before) (within_high 1 _ _ c.if-atoms-atom.true)
+returns-then-atoms-atom c =
+    let inked : is_nil (fields c.args.line.now) ≡ false = sym c.is_bare.ensures ∙ c.if-is_bare.false in
+    let row : XyzIs (xyz_shape (fields c.args.line.now)) c.in-Values.atom c.in-Values.x c.in-Values.y c.in-Values.z = xyz_told _ _ c.xyz_row.ensures _ _ _ _ c.in-Values.is in
+    row_unlisted _ _ _ _ inked _ _ _ _ row (within_high 1 _ _ c.if-atoms-atom.true)
 
 pub returns-then-atom-region : goal.returns-then-atom-region
-returns-then-atom-region c = row_late _ _ _ _ (inked c.before.before.before.before) _ _ _ _ (row c.before.before.before.before) c.if-atom-lt1.false c.if-atoms-atom.false c.if-atom-region.true
+returns-then-atom-region c =
+    let inked : is_nil (fields c.args.line.now) ≡ false = sym c.is_bare.ensures ∙ c.if-is_bare.false in
+    let row : XyzIs (xyz_shape (fields c.args.line.now)) c.in-Values.atom c.in-Values.x c.in-Values.y c.in-Values.z = xyz_told _ _ c.xyz_row.ensures _ _ _ _ c.in-Values.is in
+    row_late _ _ _ _ inked _ _ _ _ row c.if-atom-lt1.false c.if-atoms-atom.false c.if-atom-region.true
 
 pub returns : goal.returns
-returns c = row_kept _ _ _ _ (inked c.before.before.before.before.before.before.before.before) _ _ _ _ (row c.before.before.before.before.before.before.before.before) c.if-atom-lt1.false c.if-atoms-atom.false _ c.put_row.ensures c.if-atom-region.false (omega arith)
+returns c =
+    let inked : is_nil (fields c.args.line.now) ≡ false = sym c.is_bare.ensures ∙ c.if-is_bare.false in
+    let row : XyzIs (xyz_shape (fields c.args.line.now)) c.in-Values.atom c.in-Values.x c.in-Values.y c.in-Values.z = xyz_told _ _ c.xyz_row.ensures _ _ _ _ c.in-Values.is in
+    row_kept _ _ _ _ inked _ _ _ _ row c.if-atom-lt1.false c.if-atoms-atom.false _ c.put_row.ensures c.if-atom-region.false (omega arith)

@@ -5,10 +5,6 @@ use Rattle.quick.proofs.RowLaws.{xyz_told}
 use Rattle.geometry.specs.XyzRuns.{XyzRan}
 use Rattle.geometry.proofs.RunLaws.{xyz_start, xyz_more}
 use Rattle.geometry.proofs.run.xyz_run.Goals as goal
-use Rattle.geometry.proofs.run.xyz_run.Lts as lts
-
-row : (q : lts.In-Values) → XyzAt q.args.block.now q.loop-place.place q.in-Values.atom q.in-Values.x q.in-Values.y q.in-Values.z q.in-Values.next
-row q = xyz_told _ _ _ q.quick_xyz.ensures _ _ _ _ _ q.in-Values.is
 
 pub returns-then-region-ne-GEOMETRY : goal.returns-then-region-ne-GEOMETRY
 returns-then-region-ne-GEOMETRY c = xyz_start _ _ _ _ _
@@ -44,10 +40,14 @@ pub returns-then-atom-region : goal.returns-then-atom-region
 returns-then-atom-region c = c.loop-place.invariant.1
 
 pub loop-place-smaller : goal.loop-place-smaller
-loop-place-smaller c = let r = row c.before.before.before.before.before.before.before.before.before.before.before.before in omega (arith, r.line.low, r.line.high)
+loop-place-smaller c =
+    let row : XyzAt c.args.block.now c.loop-place.place c.in-Values.atom c.in-Values.x c.in-Values.y c.in-Values.z c.in-Values.next = xyz_told _ _ _ c.quick_xyz.ensures _ _ _ _ _ c.in-Values.is in
+    let r = row in omega (arith, r.line.low, r.line.high)
 
 pub loop-place-preserved : goal.loop-place-preserved
-loop-place-preserved c = let l = c.loop-place in xyz_more _ _ _ _ _ _ _ _ l.invariant.0 l.invariant.1 _ _ _ _ _ (row c.before.before.before.before.before.before.before.before.before.before.before.before) c.if-atoms-atom.false c.if-atom-region.false _ _ _ c.put_row.ensures c.wide-rows.ensures c.keep.ensures
+loop-place-preserved c =
+    let row : XyzAt c.args.block.now c.loop-place.place c.in-Values.atom c.in-Values.x c.in-Values.y c.in-Values.z c.in-Values.next = xyz_told _ _ _ c.quick_xyz.ensures _ _ _ _ _ c.in-Values.is in
+    let l = c.loop-place in xyz_more _ _ _ _ _ _ _ _ l.invariant.0 l.invariant.1 _ _ _ _ _ row c.if-atoms-atom.false c.if-atom-region.false _ _ _ c.put_row.ensures c.wide-rows.ensures c.keep.ensures
 
 pub shape_of-region : goal.shape_of-region
 shape_of-region c = c.loop-place.invariant.1.long
