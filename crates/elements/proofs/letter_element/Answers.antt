@@ -64,4 +64,4 @@ unfolding lone place_of symbols same_by any bytes blank gap cons_to fields
 returns-in-89 c = lone_is _ 89 _ c.in-89.is refl
 
 pub returns-in_default : goal.returns-in_default
-returns-in_default c = lone_gone _ (omega arith) c.in_default.rest
+returns-in_default c = lone_gone _ (omega arith) c.in_default.in_default-own.rest

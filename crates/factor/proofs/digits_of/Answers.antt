@@ -14,23 +14,12 @@ digits_behind-requires c = front_room c.args.word.now c.args.parts c.requires c.
 
 pub returns-in_default : goal.returns-in_default
 returns-in_default c =
-    let f = c.before.before in
-    let q = f.before.before.before in
-    let b = q.before.before in
-    front_wrong b.args.word.now b.args.parts b.requires q.if1.false f.before.before.if2.false _ f.digits-behind.ensures c.in_default.is
+    front_wrong c.args.word.now c.args.parts c.requires c.if-count-lt1.false c.if-count-gt-MOST_DIGITS.false _ c.digits_behind.ensures c.in_default.is
 
 pub digits_behind-requires-2 : goal.digits_behind-requires-2
 digits_behind-requires-2 c =
-    let a = c.before.before in
-    let f = a.before.before in
-    let q = f.before.before.before in
-    let b = q.before.before in
-    behind_room b.args.word.now b.args.parts b.requires q.if1.false f.before.before.if2.false _ f.digits-behind.ensures _ a.front.given.1
+    behind_room c.args.word.now c.args.parts c.requires c.if-count-lt1.false c.if-count-gt-MOST_DIGITS.false _ c.digits_behind.ensures _ c.in-Value.is
 
 pub returns : goal.returns
 returns c =
-    let a = c.before.before.before in
-    let f = a.before.before in
-    let q = f.before.before.before in
-    let b = q.before.before in
-    both_shown b.args.word.now b.args.parts b.requires q.if1.false f.before.before.if2.false _ f.digits-behind.ensures _ a.front.given.1 _ c.digits_behind-2.ensures
+    both_shown c.args.word.now c.args.parts c.requires c.if-count-lt1.false c.if-count-gt-MOST_DIGITS.false _ c.digits_behind.ensures _ c.in-Value.is _ c.digits_behind-2.ensures

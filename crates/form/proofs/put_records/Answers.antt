@@ -14,7 +14,7 @@ pub put_lists-lists-requires : goal.put_lists-lists-requires
 put_lists-lists-requires c = c.requires.0
 
 pub shape_of-buffer : goal.shape_of-buffer
-shape_of-buffer c = c.put_text.auto.0 ∙ c.put_yes-yes.auto.0 ∙ c.put_lists-lists.auto.0 ∙ c.put_atoms-atoms.auto.0 ∙ c.put_text-label.auto.0 ∙ c.put_formula-formula.auto.0 ∙ c.put_id-id.auto.0 ∙ c.put_span-owner.auto.0 ∙ c.put_span-origin.auto.0 ∙ c.put_text-version.auto.0 ∙ c.put_span-title.auto.0
+shape_of-buffer c = c.put_text.auto.buffer ∙ c.put_yes-yes.auto.buffer ∙ c.put_lists-lists.auto.buffer ∙ c.put_atoms-atoms.auto.buffer ∙ c.put_text-label.auto.buffer ∙ c.put_formula-formula.auto.buffer ∙ c.put_id-id.auto.buffer ∙ c.put_span-owner.auto.buffer ∙ c.put_span-origin.auto.buffer ∙ c.put_text-version.auto.buffer ∙ c.put_span-title.auto.buffer
 
 pub returns : goal.returns
 unfolding bytes valued print_record text_place

@@ -109,4 +109,4 @@ unfolding words
 returns-in-25 c = word_is _ 25 c.in-25.is
 
 pub returns-in_default : goal.returns-in_default
-returns-in_default c = word_past _ (missed 26 _ c.in_default.rest)
+returns-in_default c = word_past _ (missed 26 _ c.in_default.in_default-own.rest)

@@ -92,4 +92,4 @@ unfolding words
 returns-in-32 c = word_is _ 32 c.in-32.is
 
 pub returns-in_default : goal.returns-in_default
-returns-in_default c = early_gone _ c.requires c.in_default.rest
+returns-in_default c = early_gone _ c.requires c.in_default.in_default-own.rest

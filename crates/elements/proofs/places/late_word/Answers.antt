@@ -112,4 +112,4 @@ unfolding words
 returns-in-77 c = word_is _ 77 c.in-77.is
 
 pub returns-in_default : goal.returns-in_default
-returns-in_default c = late_gone _ c.requires.0 c.requires.1 c.in_default.rest
+returns-in_default c = late_gone _ c.requires.0 c.requires.1 c.in_default.in_default-own.rest

@@ -11,7 +11,7 @@ use Rattle.gather.proofs.RunLaws.{atoms_start, atoms_more}
 use Rattle.gather.proofs.runs.atom_run.Given as goal
 
 abbrev pub invariant-loop-count : goal.invariant-loop-count
-invariant-loop-count l = (length l.scratch ≡ 2973) × AtomsRan l.last l.block l.at l.atoms l.initial.scratch l.scratch (record { l.place = l.place; l.count = l.count })
+invariant-loop-count l = (length l.scratch ≡ 2973) × AtomsRan l.last l.block l.at l.atoms l.initial.scratch l.scratch (record { place = l.place; count = l.count })
 
 abbrev pub decreases-loop-count : goal.decreases-loop-count
 decreases-loop-count l = 256 - l.count

@@ -11,7 +11,7 @@ use Rattle.gather.proofs.RunLaws.{bonds_start, bonds_more, bonds_long, bonds_put
 use Rattle.gather.proofs.runs.bond_run.Given as goal
 
 abbrev pub invariant-loop-place : goal.invariant-loop-place
-invariant-loop-place l = (length l.scratch ≡ 2973) × (l.count ≤ 512) × BondsRan l.block l.at l.atoms l.bonds l.initial.scratch l.scratch (record { l.place = l.place; l.count = l.count })
+invariant-loop-place l = (length l.scratch ≡ 2973) × (l.count ≤ 512) × BondsRan l.block l.at l.atoms l.bonds l.initial.scratch l.scratch (record { place = l.place; count = l.count })
 
 abbrev pub decreases-loop-place : goal.decreases-loop-place
 decreases-loop-place l = length l.block - l.place

@@ -22,4 +22,4 @@ pub returns-in-10 : goal.returns-in-10
 returns-in-10 c = rows_gather Centres c.args.code c.args.last c.args.place (fields c.args.line.now) c.args.p c.args.scratch.now c.centre_line.new.region c.centre_line.result (own_code c.args.code 10 c.args.p c.in-10.is) (c.centre_line.ensures.0, λ w h. c.centre_line.ensures.1 w h.centres h.atoms, c.centre_line.ensures.2) c.requires
 
 pub returns-in_default : goal.returns-in_default
-returns-in_default c = rows_gather Pairs c.args.code c.args.last c.args.place (fields c.args.line.now) c.args.p c.args.scratch.now c.pair_line.new.region c.pair_line.result (own_last c.args.code c.args.p c.in_default.rest) (c.pair_line.ensures.0, λ w h. c.pair_line.ensures.1 w h.pairs h.atoms, c.pair_line.ensures.2) c.requires
+returns-in_default c = rows_gather Pairs c.args.code c.args.last c.args.place (fields c.args.line.now) c.args.p c.args.scratch.now c.pair_line.new.region c.pair_line.result (own_last c.args.code c.args.p c.in_default.in_default-own.rest) (c.pair_line.ensures.0, λ w h. c.pair_line.ensures.1 w h.pairs h.atoms, c.pair_line.ensures.2) c.requires

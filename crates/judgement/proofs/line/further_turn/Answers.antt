@@ -27,7 +27,7 @@ pub returns-in-17 : goal.returns-in-17
 returns-in-17 c = further_yes c.args.block.now c.args.at c.args.end c.args.u c.args.p c.args.scratch.now c.requires.0 c.requires.1 c.requires.2 c.requires.3 c.requires.4 c.uncommented.result c.uncommented.ensures c.yes_turn.result c.in-17.is c.yes_turn.ensures
 
 pub returns-in_default-running : goal.returns-in_default-running
-returns-in_default-running c = let n = c.in_default-1.rest in let m = c.in_default.rest in further_list c.args.block.now c.args.at c.args.end c.args.u c.args.p c.args.scratch.now c.requires.0 c.requires.1 c.requires.2 c.requires.3 c.requires.4 c.uncommented.result c.uncommented.ensures c.list_turn.result c.list_turn.new.scratch (list_code _ c.requires.1.code m.0.0.0.0.1 m.0.0.0.1 m.0.0.1 m.0.1 (λ e. n.0.0.1 (inl e)) (λ e. n.0.0.1 (inr (inl e))) (λ e. n.0.0.1 (inr (inr e))) m.1 (no_rows _ c.requires.1.code (⊎_elim (λ x. inl x.taken) (λ x. inr x.1.left) c.in_default-running.branch) n.0.1 n.1)) c.requires.5.low (c.list_turn.ensures.0, c.list_turn.ensures.1)
+returns-in_default-running c = let n = c.in_default-1.rest in let m = c.in_default.in_default-own.rest in further_list c.args.block.now c.args.at c.args.end c.args.u c.args.p c.args.scratch.now c.requires.0 c.requires.1 c.requires.2 c.requires.3 c.requires.4 c.uncommented.result c.uncommented.ensures c.list_turn.result c.list_turn.new.scratch (list_code _ c.requires.1.code m.0.0.0.0.1 m.0.0.0.1 m.0.0.1 m.0.1 (λ e. n.0.0.1 (inl e)) (λ e. n.0.0.1 (inr (inl e))) (λ e. n.0.0.1 (inr (inr e))) m.1 (no_rows _ c.requires.1.code (⊎_elim (λ x. inl x.taken) (λ x. inr x.1.left) c.in_default-running.branch) n.0.1 n.1)) c.requires.5.low (c.list_turn.ensures.0, c.list_turn.ensures.1)
 
 pub returns-in-2 : goal.returns-in-2
 returns-in-2 c = further_single c.args.block.now c.args.at c.args.end c.args.u c.args.p c.args.scratch.now c.requires.0 c.requires.1 c.requires.2 c.requires.3 c.requires.4 c.uncommented.result c.uncommented.ensures c.blank_or-in-2.result (single_code _ (⊎_elim (λ w. inl w.keys1) (λ w. inr (w.1.left, w.2.taken)) c.in-2-1.branch)) c.blank_or-in-2.ensures

@@ -8,6 +8,7 @@ use Rattle.lists.specs.Lists.{all, rows_from}
 use Rattle.soundness.specs.Sounding.{atom_fine}
 use Rattle.format.proofs.PlaceLaws.{atom_place_lem, atom_small}
 use Rattle.soundness.proofs.TestLaws.{rows_miss, rows_pass, rows_end}
+use Rattle.lists.proofs.Bools.{not_of_false, not_of_true}
 use Rattle.soundness.proofs.atoms.each_atom_fine.Goals as goal
 
 pub loop-i-init : goal.loop-i-init
@@ -17,7 +18,7 @@ pub atom_fine-requires : goal.atom_fine-requires
 atom_fine-requires c = atom_small _ _ c.atom.ensures
 
 pub returns-then-not-atom_fine : goal.returns-then-not-atom_fine
-returns-then-not-atom_fine c = sym (c.loop-i.invariant.1 ∙ rows_miss _ 16 5 _ (atom_fine 103 _ _) _ c.loop-i-test.true _ (c.atom.ensures ∙ atom_place_lem c.loop-i.i (omega arith)) _ c.atom_fine.ensures c.if-not-atom_fine.true)
+returns-then-not-atom_fine c = sym (c.loop-i.invariant.1 ∙ rows_miss _ 16 5 _ (atom_fine 103 _ _) _ c.loop-i-test.true _ (c.atom.ensures ∙ atom_place_lem c.loop-i.i (omega arith)) _ c.atom_fine.ensures (not_of_false _ c.if-not-atom_fine.true))
 
 pub overflow_add-i : goal.overflow_add-i
 overflow_add-i c = omega arith
@@ -26,7 +27,7 @@ pub loop-i-smaller : goal.loop-i-smaller
 loop-i-smaller c = omega arith
 
 pub loop-i-preserved : goal.loop-i-preserved
-loop-i-preserved c = (omega arith, c.loop-i.invariant.1 ∙ rows_pass _ 16 5 _ (atom_fine 103 _ _) _ c.loop-i-test.true _ (c.atom.ensures ∙ atom_place_lem c.loop-i.i (omega arith)) _ c.atom_fine.ensures c.if-not-atom_fine.false)
+loop-i-preserved c = (omega arith, c.loop-i.invariant.1 ∙ rows_pass _ 16 5 _ (atom_fine 103 _ _) _ c.loop-i-test.true _ (c.atom.ensures ∙ atom_place_lem c.loop-i.i (omega arith)) _ c.atom_fine.ensures (not_of_true _ c.if-not-atom_fine.false))
 
 pub returns : goal.returns
 returns c = sym (c.loop-i.invariant.1 ∙ rows_end c.args.table.now 16 5 _ (atom_fine 103 _ _) _ c.loop-i-test.false)

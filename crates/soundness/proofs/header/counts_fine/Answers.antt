@@ -2,25 +2,26 @@
 use mathlib.Core.Path.{◌∙◌}
 use Rattle.soundness.proofs.TestLaws.{stop, pass, counts_is}
 use borrow.Author.Rules.{rules}
+use Rattle.lists.proofs.Bools.{not_of_false, not_of_true}
 use Rattle.soundness.proofs.header.counts_fine.Goals as goal
 
 pub returns-then-not-ranges : goal.returns-then-not-ranges
-returns-then-not-ranges c = stop _ _ c.ranges.ensures _ c.if-not-ranges.true ∙ counts_is _
+returns-then-not-ranges c = stop _ _ c.ranges-2.ensures _ (not_of_false _ c.if-not-ranges.true) ∙ counts_is _
 
 pub returns-then-not-ranges-2 : goal.returns-then-not-ranges-2
-returns-then-not-ranges-2 c = pass _ _ c.ranges.ensures _ _ c.if-not-ranges.false (stop _ _ c.ranges-2.ensures _ c.if-not-ranges-2.true) ∙ counts_is _
+returns-then-not-ranges-2 c = pass _ _ c.ranges-2.ensures _ _ (not_of_true _ c.if-not-ranges.false) (stop _ _ c.ranges-3.ensures _ (not_of_false _ c.if-not-ranges-2.true)) ∙ counts_is _
 
 pub returns-then-not-ranges-3 : goal.returns-then-not-ranges-3
-returns-then-not-ranges-3 c = pass _ _ c.ranges.ensures _ _ c.if-not-ranges.false (pass _ _ c.ranges-2.ensures _ _ c.if-not-ranges-2.false (stop _ _ c.ranges-3.ensures _ c.if-not-ranges-3.true)) ∙ counts_is _
+returns-then-not-ranges-3 c = pass _ _ c.ranges-2.ensures _ _ (not_of_true _ c.if-not-ranges.false) (pass _ _ c.ranges-3.ensures _ _ (not_of_true _ c.if-not-ranges-2.false) (stop _ _ c.ranges-4.ensures _ (not_of_false _ c.if-not-ranges-3.true))) ∙ counts_is _
 
 pub returns-then-not-ranges-4 : goal.returns-then-not-ranges-4
-returns-then-not-ranges-4 c = pass _ _ c.ranges.ensures _ _ c.if-not-ranges.false (pass _ _ c.ranges-2.ensures _ _ c.if-not-ranges-2.false (pass _ _ c.ranges-3.ensures _ _ c.if-not-ranges-3.false (stop _ _ c.ranges-4.ensures _ c.if-not-ranges-4.true))) ∙ counts_is _
+returns-then-not-ranges-4 c = pass _ _ c.ranges-2.ensures _ _ (not_of_true _ c.if-not-ranges.false) (pass _ _ c.ranges-3.ensures _ _ (not_of_true _ c.if-not-ranges-2.false) (pass _ _ c.ranges-4.ensures _ _ (not_of_true _ c.if-not-ranges-3.false) (stop _ _ c.ranges-5.ensures _ (not_of_false _ c.if-not-ranges-4.true)))) ∙ counts_is _
 
 pub returns-then-not-ranges-5 : goal.returns-then-not-ranges-5
-returns-then-not-ranges-5 c = pass _ _ c.ranges.ensures _ _ c.if-not-ranges.false (pass _ _ c.ranges-2.ensures _ _ c.if-not-ranges-2.false (pass _ _ c.ranges-3.ensures _ _ c.if-not-ranges-3.false (pass _ _ c.ranges-4.ensures _ _ c.if-not-ranges-4.false (stop _ _ c.ranges-5.ensures _ c.if-not-ranges-5.true)))) ∙ counts_is _
+returns-then-not-ranges-5 c = pass _ _ c.ranges-2.ensures _ _ (not_of_true _ c.if-not-ranges.false) (pass _ _ c.ranges-3.ensures _ _ (not_of_true _ c.if-not-ranges-2.false) (pass _ _ c.ranges-4.ensures _ _ (not_of_true _ c.if-not-ranges-3.false) (pass _ _ c.ranges-5.ensures _ _ (not_of_true _ c.if-not-ranges-4.false) (stop _ _ c.ranges-6.ensures _ (not_of_false _ c.if-not-ranges-5.true))))) ∙ counts_is _
 
 pub returns-then-not-ranges-6 : goal.returns-then-not-ranges-6
-returns-then-not-ranges-6 c = pass _ _ c.ranges.ensures _ _ c.if-not-ranges.false (pass _ _ c.ranges-2.ensures _ _ c.if-not-ranges-2.false (pass _ _ c.ranges-3.ensures _ _ c.if-not-ranges-3.false (pass _ _ c.ranges-4.ensures _ _ c.if-not-ranges-4.false (pass _ _ c.ranges-5.ensures _ _ c.if-not-ranges-5.false (stop _ _ c.ranges-6.ensures _ c.if-not-ranges-6.true))))) ∙ counts_is _
+returns-then-not-ranges-6 c = pass _ _ c.ranges-2.ensures _ _ (not_of_true _ c.if-not-ranges.false) (pass _ _ c.ranges-3.ensures _ _ (not_of_true _ c.if-not-ranges-2.false) (pass _ _ c.ranges-4.ensures _ _ (not_of_true _ c.if-not-ranges-3.false) (pass _ _ c.ranges-5.ensures _ _ (not_of_true _ c.if-not-ranges-4.false) (pass _ _ c.ranges-6.ensures _ _ (not_of_true _ c.if-not-ranges-5.false) (stop _ _ c.ranges-7.ensures _ (not_of_false _ c.if-not-ranges-6.true)))))) ∙ counts_is _
 
 pub returns : goal.returns
-returns c = pass _ _ c.ranges.ensures _ _ c.if-not-ranges.false (pass _ _ c.ranges-2.ensures _ _ c.if-not-ranges-2.false (pass _ _ c.ranges-3.ensures _ _ c.if-not-ranges-3.false (pass _ _ c.ranges-4.ensures _ _ c.if-not-ranges-4.false (pass _ _ c.ranges-5.ensures _ _ c.if-not-ranges-5.false (pass _ _ c.ranges-6.ensures _ _ c.if-not-ranges-6.false c.ranges-7.ensures))))) ∙ counts_is _
+returns c = pass _ _ c.ranges-2.ensures _ _ (not_of_true _ c.if-not-ranges.false) (pass _ _ c.ranges-3.ensures _ _ (not_of_true _ c.if-not-ranges-2.false) (pass _ _ c.ranges-4.ensures _ _ (not_of_true _ c.if-not-ranges-3.false) (pass _ _ c.ranges-5.ensures _ _ (not_of_true _ c.if-not-ranges-4.false) (pass _ _ c.ranges-6.ensures _ _ (not_of_true _ c.if-not-ranges-5.false) (pass _ _ c.ranges-7.ensures _ _ (not_of_true _ c.if-not-ranges-6.false) c.ranges-8.ensures))))) ∙ counts_is _

@@ -7,16 +7,17 @@ use Rattle.format.specs.Table.{cell as cell_of}
 use Rattle.soundness.proofs.TestLaws.{stop, pass}
 use Rattle.soundness.proofs.RegionTests.{radicals_from, values_are, radicals_is, radicals_up}
 use borrow.Author.Rules.{rules}
+use Rattle.lists.proofs.Bools.{not_of_false, not_of_true}
 use Rattle.soundness.proofs.spread.radicals_fine.Goals as goal
 
 pub spread_fine-requires : goal.spread_fine-requires
 spread_fine-requires c = let e = (radicals_from c.cell-rows.result _ _ (omega (arith, c.requires.2, c.cell-rows.ensures)) c.radical.ensures c.unused_from-from.ensures) in (c.requires.0, omega (arith, e), omega (arith, c.unused_from-from.ensures), omega arith)
 
 pub returns-then-not-spread_fine : goal.returns-then-not-spread_fine
-returns-then-not-spread_fine c = let t = c.args.table.now in stop _ _ (values_are t false 2896 _ _ (radicals_from c.cell-rows.result _ _ (omega (arith, c.requires.2, c.cell-rows.ensures)) c.radical.ensures c.unused_from-from.ensures) _ c.spread_fine.ensures) (in_turn 0 c.cell-rows.result (column_of 4 (cell_of t 0) t)) c.if-not-spread_fine.true ∙ radicals_is t _ _ refl c.cell-rows.ensures
+returns-then-not-spread_fine c = let t = c.args.table.now in stop _ _ (values_are t false 2896 _ _ (radicals_from c.cell-rows.result _ _ (omega (arith, c.requires.2, c.cell-rows.ensures)) c.radical.ensures c.unused_from-from.ensures) _ c.spread_fine.ensures) (in_turn 0 c.cell-rows.result (column_of 4 (cell_of t 0) t)) (not_of_false _ c.if-not-spread_fine.true) ∙ radicals_is t _ _ refl c.cell-rows.ensures
 
 pub rows_in_order-requires : goal.rows_in_order-requires
 rows_in_order-requires c = (omega arith, omega (arith, c.cell-atoms.ensures), radicals_up c.args.table.now _ _ c.cell-atoms.ensures c.cell-rows.ensures c.requires.3)
 
 pub returns : goal.returns
-returns c = let t = c.args.table.now in pass _ _ (values_are t false 2896 _ _ (radicals_from c.cell-rows.result _ _ (omega (arith, c.requires.2, c.cell-rows.ensures)) c.radical.ensures c.unused_from-from.ensures) _ c.spread_fine.ensures) _ _ c.if-not-spread_fine.false c.rows_in_order.ensures ∙ radicals_is t _ _ c.cell-atoms.ensures c.cell-rows.ensures
+returns c = let t = c.args.table.now in pass _ _ (values_are t false 2896 _ _ (radicals_from c.cell-rows.result _ _ (omega (arith, c.requires.2, c.cell-rows.ensures)) c.radical.ensures c.unused_from-from.ensures) _ c.spread_fine.ensures) _ _ (not_of_true _ c.if-not-spread_fine.false) c.rows_in_order.ensures ∙ radicals_is t _ _ c.cell-atoms.ensures c.cell-rows.ensures

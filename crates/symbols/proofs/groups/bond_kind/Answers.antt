@@ -23,4 +23,4 @@ pub returns-in-65 : goal.returns-in-65
 returns-in-65 c = shows_place _ _ _ _ _ _ kinds.4 (omega arith) c.if-word-ne1.false c.in-65.is
 
 pub returns-in_default : goal.returns-in_default
-returns-in_default c = shows_else _ _ _ _ c.if-word-ne1.false (no_kind _ c.in_default.rest.0.0.0.0.1 c.in_default.rest.0.0.0.1 c.in_default.rest.0.0.1 c.in_default.rest.0.1 c.in_default.rest.1)
+returns-in_default c = shows_else _ _ _ _ c.if-word-ne1.false (no_kind _ c.in_default.in_default-own.rest.0.0.0.0.1 c.in_default.in_default-own.rest.0.0.0.1 c.in_default.in_default-own.rest.0.0.1 c.in_default.in_default-own.rest.0.1 c.in_default.in_default-own.rest.1)

@@ -17,4 +17,4 @@ pub returns-in-77 : goal.returns-in-77
 returns-in-77 c = shows_place _ _ _ _ _ _ pair_hands.2 (omega arith) c.if-word-ne1.false c.in-77.is
 
 pub returns-in_default : goal.returns-in_default
-returns-in_default c = shows_else _ _ _ _ c.if-word-ne1.false (no_pair_hand _ c.in_default.rest.0.0.1 c.in_default.rest.0.1 c.in_default.rest.1)
+returns-in_default c = shows_else _ _ _ _ c.if-word-ne1.false (no_pair_hand _ c.in_default.in_default-own.rest.0.0.1 c.in_default.in_default-own.rest.0.1 c.in_default.in_default-own.rest.1)
