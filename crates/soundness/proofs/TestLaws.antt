@@ -13,9 +13,9 @@ use lib.IntN.{ℤ, pos, nat_abs}
 use lib.Bits.{bit_or, or_add_and, and_le_r}
 use lib.Dec.{eqb, leb, ltb}
 use lib.Signed.{mag}
-use mir.Facts.{to_z-of_z, to_z_pos}
+use mir.Facts.{to_z-of_z, of_z-to_z, to_z_pos, Fits-or, Fits-of_z}
 use mir.Syntax.{w32}
-use mir.Val.{to_z, of_z}
+use mir.Val.{Fits, to_z, of_z}
 use borrow.Author.Rules.{sfits_of}
 use borrow.Author.Tests.{eqb-true, eqb-false, ne_eqb, lt-ltb, le-ltb, le-leb}
 use Rattle.lists.specs.Lists.{all, rows_from}
@@ -184,6 +184,10 @@ bits_are z b = go (eqb (of_z w32 z) 0) refl
     go true e = sym (bits_zero z b (eqb-true (of_z w32 z) 0 e))
     go false e = sym (bits_some z (eqb-false (of_z w32 z) 0 e))
 
+-- a signed number that the machine keeps has its bits
+pub bits_of : (k : ℕ) → Fits w32 k → eqb (of_z w32 (to_z w32 k)) 0 ≡ eqb k 0
+bits_of k f = ap (λ n. eqb n 0) (of_z-to_z {w = w32} f)
+
 pub or_zero_lem : (a b : ℕ) → eqb (bit_or a b) 0 ≡ (eqb a 0 && eqb b 0)
 or_zero_lem zero b = refl
 or_zero_lem (suc a) b = ne_eqb (bit_or (suc a) b) 0 (λ e. omega (arith, or_add_and (suc a) b, and_le_r (suc a) b, e)) ∙ rw (ne_eqb (suc a) 0 (λ e. omega arith))
@@ -221,6 +225,14 @@ module _ (s : List ℤ) (i : ℕ) where
       let q : all (ranging 0 0) (drop i s) ≡ (ranging 0 0 z && rest) = ap (all (ranging 0 0)) (drop-cons s i (pos 0) h) ∙ all_cons (ranging 0 0) z (drop (suc i) s) ∙ rw add-one in
       let e : eqb (bit_or any (of_z w32 z)) 0 ≡ (eqb any 0 && ranging 0 0 z) = or_zero_lem any (of_z w32 z) ∙ ap (λ (t : Bool). eqb any 0 && t) (bits_are z b) in
       ap (λ (t : Bool). eqb any 0 && t) q ∙ sym (and_assoc (eqb any 0) (ranging 0 0 z) rest) ∙ ap (λ (t : Bool). t && rest) (sym e)
+
+  -- the same as the machine keeps them, in a signed number
+  pub zeros_kept : i < length s → (any : ℕ) → Fits w32 any → mag (number_at s i) < 2 ^ 31 →
+      (eqb (of_z w32 (to_z w32 any)) 0 && all (ranging 0 0) (drop i s)) ≡ (eqb (of_z w32 (to_z w32 (bit_or any (of_z w32 (number_at s i))))) 0 && all (ranging 0 0) (drop (i + 1) s))
+  zeros_kept h any f b =
+      let turn : Fits w32 (bit_or any (of_z w32 (number_at s i))) = Fits-or f (Fits-of_z {z = number_at s i} (sfits_of b)) in
+      ap (λ (t : Bool). t && all (ranging 0 0) (drop i s)) (bits_of any f) ∙ zeros_turn h any b
+      ∙ ap (λ (t : Bool). t && all (ranging 0 0) (drop (i + 1) s)) (sym (bits_of (bit_or any (of_z w32 (number_at s i))) turn))
 
   pub zeros_end : length s ≤ i → (fine : Bool) → (fine && all (ranging 0 0) (drop i s)) ≡ fine
   zeros_end h fine = ap (λ (b : Bool). fine && b) (all_end (ranging 0 0) s i h) ∙ and-true fine

@@ -13,13 +13,15 @@ use lib.Dec.{eqb}
 use lib.Signed.{mag}
 use borrow.Author.Tests.{not-true, not-false}
 use mir.Syntax.{w32}
-use mir.Val.{of_z}
+use mir.Facts.{Fits-or, Fits-of_z}
+use mir.Val.{Fits, of_z, to_z}
+use borrow.Author.Rules.{sfits_of}
 use Rattle.lists.specs.Lists.{all}
 use Rattle.lists.proofs.Bools.{and_left_false, and_shuffle}
 use Rattle.lists.proofs.ListLaws.{all_cons, all_append, all_end}
 use Rattle.format.specs.Structure.{ranging}
 use Rattle.soundness.specs.Sounding.{number_at, unused}
-use Rattle.soundness.proofs.TestLaws.{bits_are, or_zero_lem, unused_whole}
+use Rattle.soundness.proofs.TestLaws.{bits_of, bits_are, or_zero_lem, unused_whole}
 
 abbrev pub zeros : List ℤ → Bool
 zeros s = all (ranging 0 0) s
@@ -58,6 +60,14 @@ module _ (a b c d : List ℤ) where
         rw (next_zero a i (omega arith) e, next_zero b i (omega arith) f, next_zero c i (omega arith) g, next_zero d i (omega arith) l)
         (beside (eqb k 0) (eqb (bits_at a i) 0) (eqb (bits_at b i) 0) (eqb (bits_at c i) 0) (eqb (bits_at d i) 0) (zeros (drop (i + 1) a)) (zeros (drop (i + 1) b)) (zeros (drop (i + 1) c)) (zeros (drop (i + 1) d)))
         ∙ ap (λ (t : Bool). t && four_zeros a b c d (i + 1)) (sym (or_four k (bits_at a i) (bits_at b i) (bits_at c i) (bits_at d i)))
+
+    -- the same as the machine keeps them, in a signed number
+    pub four_kept : i < n → (k : ℕ) → Fits w32 k → mag (number_at a i) < 2 ^ 31 → mag (number_at b i) < 2 ^ 31 → mag (number_at c i) < 2 ^ 31 → mag (number_at d i) < 2 ^ 31 →
+        (eqb (of_z w32 (to_z w32 k)) 0 && four_zeros a b c d i) ≡ (eqb (of_z w32 (to_z w32 (bit_or k (bit_or (bits_at a i) (bit_or (bits_at b i) (bit_or (bits_at c i) (bits_at d i))))))) 0 && four_zeros a b c d (i + 1))
+    four_kept h k m e f g l =
+        let next : ℕ = bit_or k (bit_or (bits_at a i) (bit_or (bits_at b i) (bit_or (bits_at c i) (bits_at d i)))) in
+        let turn : Fits w32 next = Fits-or m (Fits-or (Fits-of_z {z = number_at a i} (sfits_of e)) (Fits-or (Fits-of_z {z = number_at b i} (sfits_of f)) (Fits-or (Fits-of_z {z = number_at c i} (sfits_of g)) (Fits-of_z {z = number_at d i} (sfits_of l))))) in
+        ap (λ (t : Bool). t && four_zeros a b c d i) (bits_of k m) ∙ four_turn h k e f g l ∙ ap (λ (t : Bool). t && four_zeros a b c d (i + 1)) (sym (bits_of next turn))
 
     pub four_end : n ≤ i → (t : Bool) → (t && four_zeros a b c d i) ≡ t
     four_end h t =

@@ -6,7 +6,9 @@ use borrow.Author.Rules.{rules}
 use Rattle.groups.proofs.group_atoms.Goals as goal
 
 pub returns-then-labels-lt-ATOMS : goal.returns-then-labels-lt-ATOMS
-returns-then-labels-lt-ATOMS c = (λ h. (refl, refl), λ h. absurd (omega (arith, h, c.if-labels-lt-ATOMS.true)))
+returns-then-labels-lt-ATOMS c = record { few = λ h. (refl, refl); grouped = λ h. absurd (omega (arith, h, c.if-labels-lt-ATOMS.true)) }
 
 pub returns : goal.returns
-returns c = grouped c.args.table.now c.args.labels.now c.lowest_atoms.new.labels _ _ c.count_at-atoms.ensures c.count_at-bonds.ensures.0 c.if-labels-lt-ATOMS.false c.lowest_atoms.ensures
+returns c =
+    let g = grouped c.args.table.now c.args.labels.now c.lowest_atoms.new.labels _ _ c.count_at-atoms.ensures c.count_at-bonds.ensures.0 c.if-labels-lt-ATOMS.false c.lowest_atoms.ensures in
+    record { few = g.0; grouped = g.1 }

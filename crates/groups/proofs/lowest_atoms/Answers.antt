@@ -9,15 +9,8 @@ returns-then-is_one_group c = c.is_one_group.ensures.1 c.if-is_one_group.true
 
 pub join_bonds-requires : goal.join_bonds-requires
 join_bonds-requires c =
-    let l = c.before.before.before in
-    let g = l.before.before.before.before.before in
-    let st = g.before.before.before in
-    started _ _ _ l.stand-alone.ensures (omega (arith, st.requires.0, g.is-one-group.ensures.0)) st.requires.1
+    started _ _ _ c.stand_alone.ensures (omega (arith, c.requires.0, c.is_one_group.ensures.0)) c.requires.1
 
 pub returns : goal.returns
 returns c =
-    let s = c.before.before in
-    let j = s.before.before.before.before in
-    let l = j.before.before.before.before in
-    let g = l.before.before.before.before.before in
-    ended _ _ g.is-one-group.ensures.0 _ _ _ s.settle.new.0 l.stand-alone.ensures j.join-bonds.ensures s.settle.ensures.0 s.settle.ensures.1
+    ended _ _ c.is_one_group.ensures.0 _ _ _ c.settle.new.pointers c.stand_alone.ensures c.join_bonds.ensures c.settle.ensures.0 c.settle.ensures.1

@@ -2,7 +2,7 @@
 use Prim.Native.Nat.{◌-◌}
 use mathlib.Core.Path.{sym, ◌∙◌}
 use borrow.Author.Rules.{rules}
-use borrow.Author.Tests.{not-true, not-false}
+use borrow.Author.Tests.{le-leb}
 use lib.ListN.{length}
 use Rattle.lines.specs.Looks.{Looking}
 use Rattle.lines.proofs.LineLaws.{looked_all, looked_feed, looked_wrong, looks_on, looks_past}
@@ -12,7 +12,7 @@ pub loop-i-init : goal.loop-i-init
 loop-i-init c = c.plain_to-i.ensures
 
 pub loop-i-preserved-then-b-le126 : goal.loop-i-preserved-then-b-le126
-loop-i-preserved-then-b-le126 c = looks_past _ _ _ c.loop-i.invariant c.loop-i-test.true c.if-b-ge32.true c.if-b-le126.true
+loop-i-preserved-then-b-le126 c = looks_past _ _ _ c.loop-i.invariant c.loop-i-test.true c.if-b-ge32.true (le-leb _ _ c.if-b-le126.true)
 
 pub returns-then-b-eq10 : goal.returns-then-b-eq10
 returns-then-b-eq10 c = looked_feed _ _ _ c.loop-i.invariant c.loop-i-test.true c.if-b-eq10.true

@@ -9,7 +9,7 @@ use Rattle.tally.proofs.GatherLaws.{Passed, passed_none, passed_up, passed_small
 use Rattle.tally.proofs.gather.Goals as goal
 
 pub returns-then-labels-atoms : goal.returns-then-labels-atoms
-returns-then-labels-atoms c = (omega arith, no_labels _ _ _ _ _ _ c.count_at-atoms.ensures.0 c.if-labels-atoms.true)
+returns-then-labels-atoms c = record { within = omega arith; holds = no_labels _ _ _ _ _ _ c.count_at-atoms.ensures.0 c.if-labels-atoms.true }
 
 pub loop-i-init : goal.loop-i-init
 loop-i-init c = (omega arith, omega arith, passed_none _ _ _ _)
@@ -21,10 +21,10 @@ pub implied_at-more-requires : goal.implied_at-more-requires
 implied_at-more-requires c = omega arith
 
 pub returns-then-own-eq0 : goal.returns-then-own-eq0
-returns-then-own-eq0 c = (omega arith, no_kind _ _ _ _ _ _ _ c.count_at-atoms.ensures.0 c.loop-i-test.true _ c.key_at-own.ensures c.if-own-eq0.true)
+returns-then-own-eq0 c = record { within = omega arith; holds = no_kind _ _ _ _ _ _ _ c.count_at-atoms.ensures.0 c.loop-i-test.true _ c.key_at-own.ensures c.if-own-eq0.true }
 
 pub returns-then-more-gt15 : goal.returns-then-more-gt15
-returns-then-more-gt15 c = (omega arith, no_hydrogens _ _ _ _ _ _ _ c.count_at-atoms.ensures.0 c.loop-i-test.true _ c.implied_at-more.ensures c.if-more-gt15.true)
+returns-then-more-gt15 c = record { within = omega arith; holds = no_hydrogens _ _ _ _ _ _ _ c.count_at-atoms.ensures.0 c.loop-i-test.true _ c.implied_at-more.ensures c.if-more-gt15.true }
 
 pub bounds-labels-i : goal.bounds-labels-i
 bounds-labels-i c = omega arith
@@ -66,4 +66,4 @@ pub leave_group-requires : goal.leave_group-requires
 leave_group-requires c = let l = c.loop-i in (omega arith, omega arith, omega (arith, l.invariant.2.few), l.invariant.1, passed_up _ _ _ _ _ _ _ _ _ l.invariant.2, λ j h. omega (arith, passed_small _ _ _ _ _ _ _ _ _ l.invariant.2 j h, l.invariant.2.small))
 
 pub returns : goal.returns
-returns c = let l = c.loop-i in let e = c.leave_group.ensures in (omega (arith, e.2, l.invariant.2.few), gathered _ _ _ 512 _ _ _ _ (omega (arith, c.count_at-atoms.ensures.0)) (passed_left _ _ _ _ _ _ _ _ _ l.invariant.2 256 _ 512 _ _ (omega (arith, e.2, l.invariant.2.few)) (omega (arith, e.0, e.2, l.invariant.2.few)) e.4))
+returns c = let l = c.loop-i in let e = c.leave_group.ensures in record { within = omega (arith, e.2, l.invariant.2.few); holds = gathered _ _ _ 512 _ _ _ _ (omega (arith, c.count_at-atoms.ensures.0)) (passed_left _ _ _ _ _ _ _ _ _ l.invariant.2 256 _ 512 _ _ (omega (arith, e.2, l.invariant.2.few)) (omega (arith, e.0, e.2, l.invariant.2.few)) e.4) }

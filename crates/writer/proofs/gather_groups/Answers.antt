@@ -7,4 +7,4 @@ use Rattle.writer.proofs.gather_groups.Goals as goal
 pub returns : goal.returns
 returns c =
     let g = c.group_atoms in
-    (c.gather.ensures.0, groups_gathered c.args.table.now g.new.1.0 _ _ _ _ _ (omega arith) (g.ensures.1 (omega arith)) c.gather.ensures.1)
+    record { within = c.gather.ensures.within; holds = groups_gathered c.args.table.now g.new.labels _ _ _ _ _ (omega arith) (g.ensures.grouped (omega arith)) c.gather.ensures.holds }

@@ -10,4 +10,4 @@ pub bounds-region-6 : goal.bounds-region-6
 bounds-region-6 c = simp length-set (omega arith)
 
 pub returns : goal.returns
-returns c = put_is _ _ _ _ _ _ _ c.wrapping_add_u32-count.ensures c.largest_by-largest.ensures
+returns c = put_is _ _ _ _ _ _ _ c.wrapping_add_u32-count.ensures.value c.largest_by-largest.ensures

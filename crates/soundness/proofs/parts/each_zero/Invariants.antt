@@ -1,4 +1,6 @@
 -- `soundness::parts::each_zero` meets its contract. Assumes nothing.
+use mir.Syntax.{w32}
+use mir.Val.{of_z}
 use Prim.Native.Nat.{◌-◌, ◌≤◌}
 use mathlib.Core.Path.{◌≡◌, sym, ◌∙◌}
 use mathlib.Core.Bool.{◌&&◌}
@@ -13,7 +15,7 @@ use Rattle.soundness.proofs.TestLaws.{unused_whole, zeros_turn, zeros_end}
 use Rattle.soundness.proofs.parts.each_zero.Given as goal
 
 abbrev pub invariant-loop-i : goal.invariant-loop-i
-invariant-loop-i l = (l.i ≤ length l.part) × (unused l.part ≡ (eqb l.any 0 && all (ranging 0 0) (drop l.i l.part)))
+invariant-loop-i l = (l.i ≤ length l.part) × (unused l.part ≡ (eqb (of_z w32 l.any) 0 && all (ranging 0 0) (drop l.i l.part)))
 
 abbrev pub decreases-loop-i : goal.decreases-loop-i
 decreases-loop-i l = length l.part - l.i

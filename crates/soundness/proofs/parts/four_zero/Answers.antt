@@ -6,7 +6,8 @@ use native.Mathlib.Omega.{arith}
 use lib.Dec.{eqb}
 use borrow.Author.Rules.{rules}
 use Rattle.soundness.specs.Sounding.{unused}
-use Rattle.soundness.proofs.ZeroLaws.{four_zeros, four_whole, four_turn, four_end}
+use Rattle.soundness.proofs.ZeroLaws.{four_zeros, four_whole, four_kept, four_end}
+use Rattle.soundness.proofs.TestLaws.{bits_of}
 use Rattle.soundness.proofs.parts.four_zero.Goals as goal
 
 pub loop-i-init : goal.loop-i-init
@@ -14,9 +15,7 @@ loop-i-init c = (omega arith, four_whole _ _ _ _)
 
 pub loop-i-preserved : goal.loop-i-preserved
 loop-i-preserved c =
-    let l = c.before.before.before.before.before in
-    let s = l.before in
-    (omega arith, l.loop.invariant.1 ∙ four_turn s.args.first.now s.args.second.now s.args.third.now s.args.fourth.now _ _ s.requires.0 s.requires.1 s.requires.2 s.requires.3 c.loop-i-test.true l.loop.any c.any-1.given c.any-in-loop-i-1.given c.any-in-loop-i-2-1.given c.any-in-loop-i-3-1.given)
+    (omega arith, c.loop-i.invariant.1 ∙ four_kept c.args.first.now c.args.second.now c.args.third.now c.args.fourth.now _ _ c.requires.0 c.requires.1 c.requires.2 c.requires.3 c.loop-i-test.true c.loop-i.any-bits c.loop-i.auto.any c.any-1.given c.any-in-loop-i-1.given c.any-in-loop-i-2-1.given c.any-in-loop-i-3-1.given)
 
 pub returns : goal.returns
-returns c = sym (c.loop-i.invariant.1 ∙ four_end c.args.first.now c.args.second.now c.args.third.now c.args.fourth.now _ _ c.requires.0 c.requires.1 c.requires.2 c.requires.3 c.loop-i-test.false _)
+returns c = sym (c.loop-i.invariant.1 ∙ four_end c.args.first.now c.args.second.now c.args.third.now c.args.fourth.now _ _ c.requires.0 c.requires.1 c.requires.2 c.requires.3 c.loop-i-test.false _ ∙ bits_of c.loop-i.any-bits c.loop-i.auto.any)
