@@ -5,5 +5,9 @@ use Rattle.soundness.proofs.RegionTests.{pairs_is}
 use borrow.Author.Rules.{rules}
 use Rattle.soundness.proofs.keyed.pairs_fine.Goals as goal
 
+pub keyed_fine-requires : goal.keyed_fine-requires
+unfolding most
+keyed_fine-requires c = search rules
+
 pub returns : goal.returns
 returns c = c.keyed_fine.ensures ∙ pairs_is c.args.table.now _ _ c.cell-atoms.ensures c.cell-rows.ensures
