@@ -14,7 +14,7 @@ import re
 import sys
 
 NAME = r"[^\s(){}.;,@\"«»]+"
-HEAD = re.compile(rf"(?m)^( *)((?:(?:abbrev|unfoldable|pub|data|record|let|in|where) +)*)((?:{NAME} +)*?{NAME})((?: +\{{[^{{}}\n]*\}}| +\([^()\n]*\))*) +: ")
+HEAD = re.compile(rf"(?m)^( *)((?:(?:abbrev|unfoldable|pub|data|record|let|in|where) +)*)((?:{NAME} +)*?{NAME})((?: +\{{[^{{}}\n]*\}}| +\([^()\n]*\))*) +:(?: |$)")
 USE = re.compile(r"^ *(?:pub |ghost )*use ([^\s;{]+?)(?:\.?\{([^}]*)\})?(?: as \S+)?;? *$", re.M)
 WORD = re.compile(NAME)
 KEYWORDS = {"abbrev", "unfoldable", "pub", "data", "record", "let", "in", "where", "mod", "use", "module", "λ", "→", ":", "=", "--", "constructor", "_"}
@@ -77,7 +77,7 @@ def main():
             names = [n.strip().split(" as ") for n in (m[2] or "").split(",") if n.strip()]
             if not is_ours(m[1], crates):
                 lent[p] |= {n[-1] for n in names}
-        if p.endswith(".antt") and not p.endswith("/Proof.antt"):
+        if p.endswith(".antt") and not p.endswith(("/Proof.antt", "/Answers.antt", "/Invariants.antt")):
             for w in declared(t):
                 ours[w].add(p)
     table = {w: spelt(w) for w in ours if "-" in w.strip("-") or re.search(r"[a-z0-9][A-Z]", w) and not w.strip("◌")[:1].isupper()}

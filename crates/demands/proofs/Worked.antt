@@ -68,22 +68,22 @@ pub example_walked : printed_all (answers 103 example_file) ≡ some example_lin
 unfolding computing example_file
 example_walked = refl
 
-pub example-steps :
+pub example_steps :
     (walk_at example_file 0 ≡ Found (piece block 0 88))
     × (walk_at example_file 88 ≡ Found (piece stray 88 93))
     × (walk_at example_file 2 ≡ Found (piece stray 2 93))
     × (walk_at example_file 192 ≡ Finished)
     × (walk_at example_file 193 ≡ NotWalked 32)
 unfolding computing example_file
-example-steps = (refl, refl, refl, refl, refl)
+example_steps = (refl, refl, refl, refl, refl)
 
-pub example-names :
+pub example_names :
     (name_of (bytes neon) [] ≡ bytes "a")
     × (name_of (bytes "##TITLE=\n") (bytes "x") ≡ bytes "x")
     × (name_of (bytes "##TITLE=\n foo \n bar\n##X") [] ≡ bytes "foo \n bar")
     × (name_of (bytes "##END=\n") (bytes "x") ≡ bytes "x")
 unfolding computing
-example-names = (refl, refl, refl, refl)
+example_names = (refl, refl, refl, refl)
 
 pub example_checks : (check_of 103 (bytes neon) ≡ 0) × (check_of 103 [] ≡ 17179869184)
 unfolding computing

@@ -13,12 +13,12 @@ use Rattle.format.specs.Structure.{symbols, place_of}
 use Rattle.format.proofs.Computing.{computing}
 
 -- there are 103, and each stands at its atomic number
-pub elements-numbered :
+pub elements_numbered :
     (length symbols ≡ 103)
     × (map (λ w. place_of 1 w symbols) (fields (bytes "Ac Ag Al Am Ar As At Au B Ba Be Bi Bk Br C Ca Cd Ce Cf Cl Cm Co Cr Cs Cu Dy Er Es Eu F Fe Fm Fr Ga Gd Ge H He Hf Hg Ho I In Ir K Kr La Li Lr Lu Md Mg Mn Mo N Na Nb Nd Ne Ni No Np O Os P Pa Pb Pd Pm Po Pr Pt Pu Ra Rb Re Rh Rn Ru S Sb Sc Se Si Sm Sn Sr Ta Tb Tc Te Th Ti Tl Tm U V W Xe Y Yb Zn Zr"))
     ≡ 89 ∷ 47 ∷ 13 ∷ 95 ∷ 18 ∷ 33 ∷ 85 ∷ 79 ∷ 5 ∷ 56 ∷ 4 ∷ 83 ∷ 97 ∷ 35 ∷ 6 ∷ 20 ∷ 48 ∷ 58 ∷ 98 ∷ 17 ∷ 96 ∷ 27 ∷ 24 ∷ 55 ∷ 29 ∷ 66 ∷ 68 ∷ 99 ∷ 63 ∷ 9 ∷ 26 ∷ 100 ∷ 87 ∷ 31 ∷ 64 ∷ 32 ∷ 1 ∷ 2 ∷ 72 ∷ 80 ∷ 67 ∷ 53 ∷ 49 ∷ 77 ∷ 19 ∷ 36 ∷ 57 ∷ 3 ∷ 103 ∷ 71 ∷ 101 ∷ 12 ∷ 25 ∷ 42 ∷ 7 ∷ 11 ∷ 41 ∷ 60 ∷ 10 ∷ 28 ∷ 102 ∷ 93 ∷ 8 ∷ 76 ∷ 15 ∷ 91 ∷ 82 ∷ 46 ∷ 61 ∷ 84 ∷ 59 ∷ 78 ∷ 94 ∷ 88 ∷ 37 ∷ 75 ∷ 45 ∷ 86 ∷ 44 ∷ 16 ∷ 51 ∷ 21 ∷ 34 ∷ 14 ∷ 62 ∷ 50 ∷ 38 ∷ 73 ∷ 65 ∷ 43 ∷ 52 ∷ 90 ∷ 22 ∷ 81 ∷ 69 ∷ 92 ∷ 23 ∷ 74 ∷ 54 ∷ 39 ∷ 70 ∷ 30 ∷ 40 ∷ [])
 unfolding computing
-elements-numbered = (refl, refl)
+elements_numbered = (refl, refl)
 
 abbrev the : String → Label
 the name = lookup (bytes name) known

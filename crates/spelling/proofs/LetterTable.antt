@@ -13,7 +13,7 @@ use Rattle.lists.proofs.Bools.{and_parts}
 use Rattle.lists.proofs.IndexLaws.{below, at_below}
 use Rattle.format.specs.Structure.{symbols}
 use Rattle.format.specs.Writing.{symbol_of}
-use Rattle.format.proofs.Tables.{elements-numbered}
+use Rattle.format.proofs.Tables.{elements_numbered}
 use Rattle.format.proofs.Computing.{computing}
 use Rattle.spelling.specs.Words.{words, word_of}
 
@@ -52,7 +52,7 @@ inside e h =
 
 outside : (e : ℕ) → 104 ≤ e → Both e (low e)
 outside e h =
-    let none : symbol_of e ≡ [] = get_or-eq_default symbols [] {n = e - 1} (rw elements-numbered.0 (omega arith)) in
+    let none : symbol_of e ≡ [] = get_or-eq_default symbols [] {n = e - 1} (rw elements_numbered.0 (omega arith)) in
     let bare : low e ≡ 0 = ap (λ (w : ℕ). w / 2 ^ (16 * (e % 4))) (sym (word_past (e / 4) (omega arith))) ∙ zero-div (2 ^ (16 * (e % 4))) in
     (ap (λ (w : ℕ). w % 256) bare ∙ sym (ap (λ l. get_or l 0 0) none), ap (λ (w : ℕ). w / 256 % 256) bare ∙ sym (ap (λ l. get_or l 1 0) none))
 
