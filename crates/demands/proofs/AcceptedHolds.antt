@@ -3,7 +3,6 @@
 use mathlib.Core.Path.{◌≡◌, refl, sym, ap, ◌∙◌, subst}
 use mathlib.Core.Bool.{Bool, false}
 use Rattle.format.specs.Labels.{ListOf, XyzOf, MaxXyz, XyzFactor, XyzRows, Holds, Text, Version, Formula, BlockId, Atoms, Rows, Xyz, Handedness, End, Skipped}
-use Rattle.format.specs.Coordinates.{factor}
 
 -- BY WHAT A RECORD HOLDS, with what all the others have: the formula, the id, the atoms, a list; or a part of the geometry
 module _ {A : Type 0} where

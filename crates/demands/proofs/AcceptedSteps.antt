@@ -16,7 +16,7 @@ use Rattle.format.specs.Bytes.{Bytes, bytes, same, within, gap, hash, head_is, a
 use Rattle.format.specs.Labels.{ListOf, MaxXyz, XyzFactor, XyzRows, Holds, Text, Version, Formula, BlockId, Atoms, Rows, Xyz, Handedness, End, Skipped, Label, misplaced, Line, Plain, Unparted, Labelled, line_of, title_line}
 use Rattle.format.specs.Rows.{Row, AtomRow, number, field, atom_shape, row_shape}
 use Rattle.format.specs.Formula.{Counted, formula_shape}
-use Rattle.format.specs.Coordinates.{XyzRow, xyz_shape, Factor, factor_shape, geometry, exceeds}
+use Rattle.format.specs.Coordinates.{XyzRow, xyz_shape, Factor, factor_shape, exceeds}
 use Rattle.format.specs.Structure.{unknown, mass_ok, rows_of, most, ranged, meets, clash, handed_twice, entries_of, agree}
 use Rattle.format.specs.Reading.{strict, State, Turn, Go, Stop, if◌stop◌else◌, with_body, past, with_yes, atom_count, lacks, ordered, atom_turn, joined, join_turn, row_turn, formula_turn, version_turn, id_value, id_turn, only_field, greatest_turn, factor_turn, xyz_turn, atom_line, row_line, xyz_line, xyz_value, yes_turn, yes_line, partly, end_turn, value_turn, blank_or, xyz_further, further_turn, over, opened, line_turn, line_step, Outcome, Accepted, Refused, ending, read_lines}
 use Rattle.format.proofs.ByteLaws.{gap_small}

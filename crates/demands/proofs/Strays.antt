@@ -1,7 +1,7 @@
 -- Stray runs are as long as they can be: no two of them adjoin, and no TITLE line stands in one. Document 01, "Walking a transfer file". Assumes nothing.
 use Prim.Native.Nat.{ℕ, ◌+◌, ◌-◌}
 use mathlib.Core.Path.{◌≡◌, refl, sym, ap, ◌∙◌}
-use mathlib.Core.Bool.{Bool, true, false, ◌||◌}
+use mathlib.Core.Bool.{Bool, true, false}
 use mathlib.Core.List.{List, [], ◌∷◌, ◌++◌, append_assoc}
 use native.Mathlib.Omega.{arith}
 use lib.ListN.{length, take, drop, length-append}
@@ -11,9 +11,9 @@ use Rattle.lists.proofs.ListLaws.{any_nil, any_one, any_append}
 use Rattle.lists.proofs.PartLaws.{concat_nil, concat_one, concat_append}
 use Rattle.format.specs.Bytes.{Bytes, cut}
 use Rattle.format.specs.Labels.{title_line, end_line}
-use Rattle.format.specs.Walking.{Kind, block, stray, Piece, piece, Mode, outside, in_block, in_stray, close, ended, next, run, pieces, bytes_of}
+use Rattle.format.specs.Walking.{Kind, block, stray, piece, Mode, outside, in_block, in_stray, close, ended, next, run, pieces, bytes_of}
 use Rattle.format.proofs.CutLaws.{cut_rest, cut_front}
-use Rattle.demands.specs.Stretches.{is_stray, stray_first, strays_adjoin, title_in_stray}
+use Rattle.demands.specs.Stretches.{stray_first, strays_adjoin, title_in_stray}
 use Rattle.demands.proofs.Stretches.{total}
 
 -- NO TWO ADJOIN: behind a stray run a block is open, which is then the next piece

@@ -11,7 +11,7 @@ use lib.Seq.{take_at, drop_at, drop-drop}
 use lib.IntN.{ℤ, pos, nat_abs}
 use lib.Dec.{eqb}
 use borrow.Author.Tests.{le-ltb}
-use Rattle.lists.specs.Lists.{all, pairs, same_by, flat, filled, rows_from}
+use Rattle.lists.specs.Lists.{all, same_by, flat, filled, rows_from}
 use Rattle.lists.proofs.Bools.{and_both}
 use Rattle.lists.proofs.PartLaws.{filled_is, filled_length}
 use Rattle.lists.proofs.PairLaws.{same_by_refl}

@@ -13,7 +13,6 @@ use borrow.Author.Tests.{lt-ltb, le-ltb}
 use Rattle.format.specs.Bytes.{Bytes, gap}
 use Rattle.format.specs.Rows.{digit, upper, lower, Sym, sym_of}
 use Rattle.format.specs.Formula.{Counted, counted, FState, dead, between, at_caret, in_mass, at_one, at_two, at_slash, in_count, Move, still, tells, part, leave, count_or, fstep, finish, join, frun, formula_shape}
-use Rattle.format.proofs.FieldLaws.{printed}
 
 -- WHAT AN ENTRY ENDS WITH
 module _ (e : Counted) (b : ℕ) where

@@ -10,7 +10,7 @@ use lib.Arith.{lt_of_le-ne}
 use lib.Dec.{T, is_le, compare_is_eq, eqb, leb→le, nleb→lt, eqb→eq, eqb_refl, le→leb, lt→ltb, lit<, lit≤}
 use lib.Pow.{pow-add, pow_pos}
 use lib.IntN.{ℤ, pos, negsuc, nat_abs}
-use lib.Ieee.{Float, nan, inf, fin, Format, binary64, low, emax, up, down, size, nearest, units, round, div, unlike, of_int, in_float, neg}
+use lib.Ieee.{Float, nan, inf, fin, Format, binary64, low, emax, up, down, size, nearest, round, div, unlike, of_int, in_float, neg}
 use lib.Ieee.Back.{round_whole}
 use lib.Ieee.Digits.{size_reaches}
 use lib.Ieee.Exact.{HasValue, units_val, round_exact}

@@ -1,6 +1,6 @@
 -- Where a turn of a reading leads: to a state of which a thing holds, if it holds of the state before and of that state with another structure, text, formula or
 -- geometry; and a refusal's number is not 0. Serves document 01, "Refusal numbers". Assumes nothing.
-use Prim.Native.Nat.{ℕ, suc, ◌-◌, ◌<◌}
+use Prim.Native.Nat.{ℕ, suc, ◌<◌}
 use mathlib.Core.Path.{◌≡◌, refl, subst}
 use mathlib.Core.Bool.{Bool, true, false, not, ◌&&◌, ◌||◌}
 use mathlib.Core.Option.{Option, none, some}

@@ -12,7 +12,7 @@ use Rattle.lists.specs.Lists.{is_nil, all, concat}
 use Rattle.lists.proofs.PartLaws.{concat_length}
 use Rattle.format.specs.Bytes.{Bytes, allowed}
 use Rattle.format.specs.Labels.{ListOf, XyzRows, Holds, Xyz, Label, misplaced, Line, Plain, Unparted, Labelled, line_of, title_line}
-use Rattle.format.specs.Coordinates.{XyzRow, geometry}
+use Rattle.format.specs.Coordinates.{XyzRow}
 use Rattle.format.specs.Structure.{Structure}
 use Rattle.format.specs.Reading.{Rules, State, Turn, Go, Stop, if◌stop◌else◌, with_body, past, atom_line, row_line, xyz_line, value_turn, further_turn, over, opened, line_turn, line_step, Accepted, Refused, ending, read_lines}
 use Rattle.format.proofs.LeadLaws.{Leads, stop_go, stop_leads, if_leads, atoms_lead, rows_lead, xyz_line_leads, value_leads, further_leads}

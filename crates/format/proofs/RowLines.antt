@@ -11,8 +11,7 @@ use borrow.Author.Tests.{not-true}
 use Rattle.lists.specs.Lists.{all}
 use Rattle.lists.proofs.Bools.{and_left_false}
 use Rattle.lists.proofs.ListLaws.{all_nil, all_both, all_append_both, all_parts, all_imply}
-use Rattle.format.specs.Bytes.{Bytes, bytes, head_is, allowed, fields, strip, hash, is_label}
-use Rattle.format.specs.Rows.{row}
+use Rattle.format.specs.Bytes.{Bytes, head_is, allowed, fields, strip, hash, is_label}
 use Rattle.format.specs.Writing.{behind, line}
 use Rattle.format.proofs.CutLaws.{feedless, not_feed, full}
 use Rattle.format.proofs.ByteLaws.{feed_gap, allowed_gap}

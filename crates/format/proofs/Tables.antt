@@ -1,6 +1,5 @@
 -- The two tables among the definitions, said another way and compared by computation: the elements in alphabetical order with their numbers, and which label
 -- must follow which, by document 01's sentence. Assumes nothing.
-use Prim.Native.Nat.{ℕ}
 use Prim.Native.String.{String}
 use mathlib.Core.Path.{◌≡◌, refl}
 use mathlib.Core.Bool.{Bool, true, false, ◌&&◌, not}

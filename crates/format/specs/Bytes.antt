@@ -1,6 +1,6 @@
 -- Bytes, lines, fields, comments, texts: document 01, "Lines and labels", and the paper's section 3. A line keeps its own line feed, so that the lines of a
 -- block are the block. Stricter than the paper: a lone carriage return ends no line. Assumes nothing.
-use Rattle.std.specs.Prelude.{ℕ, suc, Bool, true, false, ◌&&◌, ◌||◌, not, List, [], ◌∷◌, ◌++◌, drop, eqb, leb}
+use Rattle.std.specs.Prelude.{ℕ, suc, Bool, true, false, ◌&&◌, ◌||◌, not, List, [], ◌∷◌, drop, eqb, leb}
 use Prim.Native.Char.{code}
 use Prim.Native.String.{String}
 use Rattle.lists.specs.Lists.{any, same_by, span}

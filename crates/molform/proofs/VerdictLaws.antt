@@ -1,6 +1,6 @@
 -- The refusal of a formula: that of entries put together is the lowest of theirs, a shape that is none is refused 9 whatever was told, and Reading's turn of the
 -- formula stops with it: document 01, "Rows", MOLFORM; "Refusal numbers". Assumes nothing.
-use Prim.Native.Nat.{ℕ, zero, suc, ◌+◌, ◌≤◌, ◌<◌, min}
+use Prim.Native.Nat.{ℕ, zero, suc, ◌≤◌, ◌<◌, min}
 use mathlib.Core.Path.{◌≡◌, refl, sym, ap, ap₂, ◌∙◌}
 use mathlib.Core.Bool.{Bool, true, false, ◌&&◌, ◌||◌, not}
 use mathlib.Core.Option.{Option, none, some}

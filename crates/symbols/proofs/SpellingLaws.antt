@@ -19,7 +19,6 @@ use Rattle.format.proofs.SymbolLaws.{lettered_one, lettered_two, symbol_plain, s
 use Rattle.numbers.specs.declared.Numeral.{Numeral}
 use Rattle.numbers.specs.declared.Numeral.TheVariants as N
 use Rattle.symbols.specs.declared.Spelling.{Spelling}
-use Rattle.symbols.specs.declared.Spelling.TheVariants as S
 use Rattle.alphabet.specs.Runs.{RunEnd}
 use Rattle.numbers.specs.ShownNumbers.{shown_number, Shows}
 use Rattle.symbols.specs.ShownSymbols.{sym_of_mark, shown_symbol, ShowsSymbol}

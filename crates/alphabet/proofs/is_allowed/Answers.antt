@@ -2,7 +2,6 @@
 use Rattle.format.specs.Bytes.{allowed, within}
 use mathlib.Core.Path.{sym, ◌∙◌}
 use borrow.Author.Tests.{le-leb, lt-leb}
-use borrow.Author.Rules.{rules}
 use Rattle.alphabet.proofs.is_allowed.Goals as goal
 
 pub returns-then-is_gap : goal.returns-then-is_gap

@@ -1,10 +1,8 @@
 -- `atoms::atom_joined` meets its contract. Assumes nothing.
 use mathlib.Core.Path.{refl, sym, ◌∙◌}
 use native.Mathlib.Omega.{arith}
-use borrow.Author.Tests.{not-true, not-false}
 use Rattle.sorted.proofs.JoinLaws.{kept_within, stop_within}
 use Rattle.atoms.proofs.AtomLineLaws.{mass_10, hydrogens_10, shows_11, shows_12, shows_14, shows_joined}
-use borrow.Author.Rules.{rules}
 use Rattle.atoms.proofs.atom_joined.Goals as goal
 
 pub returns-then-not-mass_fits : goal.returns-then-not-mass_fits

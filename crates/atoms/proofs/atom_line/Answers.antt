@@ -3,7 +3,6 @@ use mathlib.Core.Path.{refl, sym, ◌∙◌}
 use native.Mathlib.Omega.{arith}
 use Rattle.sorted.proofs.KeyedLaws.{line_within, refused_within, handed_within}
 use Rattle.atoms.proofs.AtomLineLaws.{atom_torn, shows_bare, shows_refused, shows_values}
-use borrow.Author.Rules.{rules}
 use Rattle.atoms.proofs.atom_line.Goals as goal
 
 pub returns-then-region-ne-KINDS : goal.returns-then-region-ne-KINDS

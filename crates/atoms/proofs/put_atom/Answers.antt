@@ -4,7 +4,6 @@ use mathlib.Core.Path.{refl}
 use native.Mathlib.Omega.{arith}
 use lib.ListN.{length-set}
 use Rattle.atoms.proofs.AtomLineLaws.{stored_three}
-use borrow.Author.Rules.{rules}
 use Rattle.atoms.proofs.put_atom.Goals as goal
 
 pub returns-then-region-ne-KINDS : goal.returns-then-region-ne-KINDS

@@ -2,7 +2,6 @@
 use lib.ListN.{get_or}
 use lib.IntN.{pos}
 use Rattle.cells.proofs.SignLaws.{cell_beyond, plain_fits, below_fits, below_plain, below_room, below_size}
-use borrow.Author.Rules.{rules}
 use Rattle.cells.proofs.cell.Goals as goal
 
 pub overflow_sub-below : goal.overflow_sub-below

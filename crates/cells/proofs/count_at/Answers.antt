@@ -1,6 +1,5 @@
 -- `cells::count_at` meets its contract. Assumes nothing.
 use Rattle.cells.proofs.CountLaws.{count_low, count_high}
-use borrow.Author.Rules.{rules}
 use Rattle.cells.proofs.count_at.Goals as goal
 
 pub returns-then-count-most : goal.returns-then-count-most

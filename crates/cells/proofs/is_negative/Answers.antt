@@ -2,7 +2,6 @@
 use lib.ListN.{get_or}
 use lib.IntN.{pos}
 use Rattle.cells.proofs.SignLaws.{sign_is, sign_beyond}
-use borrow.Author.Rules.{rules}
 use Rattle.cells.proofs.is_negative.Goals as goal
 
 pub returns-then-at-table : goal.returns-then-at-table

@@ -1,6 +1,5 @@
 -- `cells::ranges` meets its contract. Assumes nothing.
 use Rattle.cells.proofs.SignLaws.{ranging_negative, ranging_low, ranging_high}
-use borrow.Author.Rules.{rules}
 use Rattle.cells.proofs.ranges.Goals as goal
 
 pub returns-then-is_negative : goal.returns-then-is_negative

@@ -2,7 +2,6 @@
 use mathlib.Core.Path.{refl}
 use native.Mathlib.Omega.{arith}
 use Rattle.clearing.proofs.ClearLaws.{cleared}
-use borrow.Author.Rules.{rules}
 use Rattle.clearing.proofs.clear.Goals as goal
 
 pub returns-then-table-lt-SIZE : goal.returns-then-table-lt-SIZE

@@ -1,10 +1,6 @@
 -- `clearing::clear_part` meets its contract. Assumes nothing.
-use Prim.Native.Nat.{◌-◌, ◌≤◌}
-use mathlib.Core.Path.{◌≡◌, refl}
-use mathlib.Core.List.{◌++◌}
+use mathlib.Core.Path.{refl}
 use native.Mathlib.Omega.{arith}
-use lib.ListN.{length, drop}
-use Rattle.format.specs.Table.{zeros}
 use Rattle.clearing.proofs.ClearLaws.{zeros_start, zeros_more, set_length, zeros_end}
 use Rattle.clearing.proofs.clear_part.Goals as goal
 

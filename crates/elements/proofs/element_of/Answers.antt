@@ -2,7 +2,6 @@
 use native.Mathlib.Omega.{arith}
 use Rattle.format.proofs.ByteLaws.{within_low, within_high}
 use Rattle.elements.proofs.ElementLaws.{no_first, no_second, one_letter, two_letters}
-use borrow.Author.Rules.{rules}
 use Rattle.elements.proofs.element_of.Goals as goal
 
 pub returns-then-second-eq0 : goal.returns-then-second-eq0

@@ -4,7 +4,6 @@ use Prim.Native.Nat.{ℕ}
 use Rattle.format.specs.Structure.{isotope_of}
 use Rattle.symbols.specs.ShownSymbols.{sym_of_mark}
 use Rattle.elements.proofs.IsotopeLaws.{deuterium, tritium, one_other, two_other}
-use borrow.Author.Rules.{rules}
 use Rattle.elements.proofs.isotope_of.Goals as goal
 
 pub returns-then-second-ne0 : goal.returns-then-second-ne0

@@ -1,6 +1,5 @@
 -- `factor::digits_of` meets its contract. Assumes nothing.
 use Rattle.factor.proofs.PartLaws.{no_digits, many_digits, front_room, front_wrong, behind_room, both_shown}
-use borrow.Author.Rules.{rules}
 use Rattle.factor.proofs.digits_of.Goals as goal
 
 pub returns-then-count-lt1 : goal.returns-then-count-lt1

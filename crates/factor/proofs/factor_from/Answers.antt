@@ -1,6 +1,5 @@
 -- `factor::factor_from` meets its contract. Assumes nothing.
 use Rattle.factor.proofs.FactorLaws.{digits_exact, from_is}
-use borrow.Author.Rules.{rules}
 use Rattle.factor.proofs.factor_from.Goals as goal
 
 pub quotient-value-requires : goal.quotient-value-requires

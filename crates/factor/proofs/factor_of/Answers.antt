@@ -1,8 +1,7 @@
 -- `factor::factor_of` meets its contract. Assumes nothing.
-use Prim.Native.Nat.{ℕ, ◌-◌, ◌≤◌}
+use Prim.Native.Nat.{◌-◌, ◌≤◌}
 use mathlib.Core.Path.{◌≡◌, sym, ap, ◌∙◌}
 use mathlib.Core.Option.{some}
-use mathlib.Core.List.{List}
 use native.Mathlib.Omega.{arith}
 use lib.ListN.{length}
 use Rattle.format.specs.Rows.{digits_of}
@@ -10,7 +9,6 @@ use Rattle.numbers.specs.ShownNumbers.{shown_number}
 use Rattle.factor.specs.ShownFactors.{unpointed_of}
 use Rattle.factor.proofs.PartLaws.{few_decimals}
 use Rattle.factor.proofs.FactorLaws.{no_factor, zero_factor, some_factor}
-use borrow.Author.Rules.{rules}
 use Rattle.factor.proofs.factor_of.Goals as goal
 
 pub returns-in_default : goal.returns-in_default

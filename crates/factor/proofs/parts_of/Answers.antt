@@ -1,7 +1,6 @@
 -- `factor::parts_of` meets its contract. Assumes nothing.
 use mathlib.Core.Path.{refl}
 use Rattle.factor.proofs.PartLaws.{parted, unparted}
-use borrow.Author.Rules.{rules}
 use Rattle.factor.proofs.parts_of.Goals as goal
 
 pub returns-then-point-word : goal.returns-then-point-word

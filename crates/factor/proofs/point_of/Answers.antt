@@ -1,11 +1,7 @@
 -- `factor::point_of` meets its contract. Assumes nothing.
-use Prim.Native.Nat.{◌+◌, ◌-◌}
-use mathlib.Core.Path.{◌≡◌, refl, sym, ap, ◌∙◌}
+use mathlib.Core.Path.{refl, sym, ap, ◌∙◌}
 use mathlib.Core.Bool.{not}
-use borrow.Author.Rules.{rules}
 use borrow.Author.Tests.{eq-eqb, ne_eqb}
-use lib.ListN.{length, drop}
-use Rattle.lists.specs.Lists.{span}
 use Rattle.lists.proofs.ListLaws.{span_in, span_out, span_end}
 use Rattle.format.specs.Coordinates.{unpointed}
 use Rattle.alphabet.proofs.RunLaws.{runs}

@@ -1,13 +1,9 @@
 -- `fields::gap_end` meets its contract. Assumes nothing.
 use Prim.Native.Nat.{◌+◌, ◌-◌}
-use mathlib.Core.Path.{◌≡◌, refl, sym, ◌∙◌}
-use borrow.Author.Rules.{rules}
-use borrow.Author.Tests.{not-true, not-false}
+use mathlib.Core.Path.{◌≡◌}
 use lib.ListN.{length, drop}
 use Rattle.lists.specs.Lists.{span}
-use Rattle.lists.proofs.ListLaws.{span_in, span_out, span_end}
 use Rattle.format.specs.Bytes.{gap}
-use Rattle.alphabet.proofs.RunLaws.{runs}
 use Rattle.fields.proofs.gap_end.Given as goal
 
 abbrev pub invariant-loop-i : goal.invariant-loop-i

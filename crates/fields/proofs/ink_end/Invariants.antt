@@ -1,13 +1,9 @@
 -- `fields::ink_end` meets its contract. Assumes nothing.
 use Prim.Native.Nat.{◌+◌, ◌-◌}
-use mathlib.Core.Path.{◌≡◌, refl, sym, ap, ◌∙◌}
-use mathlib.Core.Bool.{not}
-use borrow.Author.Rules.{rules}
+use mathlib.Core.Path.{◌≡◌}
 use lib.ListN.{length, drop}
 use Rattle.lists.specs.Lists.{span}
-use Rattle.lists.proofs.ListLaws.{span_in, span_out, span_end}
 use Rattle.format.specs.Bytes.{ink}
-use Rattle.alphabet.proofs.RunLaws.{runs}
 use Rattle.fields.proofs.ink_end.Given as goal
 
 abbrev pub invariant-loop-i : goal.invariant-loop-i

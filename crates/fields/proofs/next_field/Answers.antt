@@ -1,6 +1,5 @@
 -- `fields::next_field` meets its contract. Assumes nothing.
 use Rattle.fields.proofs.NextFieldLaws.{next_is}
-use borrow.Author.Rules.{rules}
 use Rattle.fields.proofs.next_field.Goals as goal
 
 pub returns : goal.returns

@@ -1,7 +1,6 @@
 -- `form::put_form` meets its contract. Assumes nothing.
 use native.Mathlib.Omega.{arith}
 use Rattle.printing.proofs.PrintLaws.{untouched}
-use borrow.Author.Rules.{rules}
 use Rattle.form.proofs.put_form.Goals as goal
 
 pub returns-then-table-lt-SIZE : goal.returns-then-table-lt-SIZE

@@ -4,7 +4,6 @@ use Rattle.format.specs.Bytes.{bytes}
 use Rattle.format.specs.Table.{text_place}
 use Rattle.format.specs.Writing.{valued, print_record}
 use Rattle.form.proofs.FormLaws.{form_laid}
-use borrow.Author.Rules.{rules}
 use Rattle.form.proofs.put_records.Goals as goal
 
 pub put_formula-formula-requires : goal.put_formula-formula-requires

@@ -4,7 +4,6 @@ use borrow.Author.Tests.{eq-eqb, ne_eqb}
 use Rattle.format.proofs.FormulaLaws.{between_upper, between_caret, between_gap}
 use Rattle.formula.proofs.StepLaws.{between_other, between_next, between_early}
 use Rattle.formula.proofs.MoveLaws.{stays}
-use borrow.Author.Rules.{rules}
 use Rattle.formula.proofs.between_step.Goals as goal
 
 pub returns-then-is_upper : goal.returns-then-is_upper

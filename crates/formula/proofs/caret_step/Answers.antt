@@ -5,7 +5,6 @@ use Rattle.format.proofs.ByteLaws.{digit_bounds}
 use Rattle.format.proofs.FormulaLaws.{caret_digit, caret_dead}
 use Rattle.formula.proofs.StepLaws.{one_digit}
 use Rattle.formula.proofs.MoveLaws.{stays}
-use borrow.Author.Rules.{rules}
 use Rattle.formula.proofs.caret_step.Goals as goal
 
 pub overflow_sub-result : goal.overflow_sub-result

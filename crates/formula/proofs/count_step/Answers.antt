@@ -3,7 +3,6 @@ use mathlib.Core.Path.{sym, ◌∙◌}
 use native.Mathlib.Omega.{arith}
 use Rattle.format.proofs.FormulaLaws.{count_long, count_other}
 use Rattle.formula.proofs.MoveLaws.{stays, renamed, count_grows}
-use borrow.Author.Rules.{rules}
 use Rattle.formula.proofs.count_step.Goals as goal
 
 pub longer-requires : goal.longer-requires

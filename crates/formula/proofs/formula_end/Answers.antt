@@ -3,7 +3,6 @@ use mathlib.Core.Path.{sym, ap}
 use Rattle.format.specs.Formula.{finish}
 use Rattle.formula.specs.Machine.{state_shown}
 use Rattle.formula.specs.declared.State.{State}
-use borrow.Author.Rules.{rules}
 use Rattle.formula.proofs.formula_end.Goals as goal
 
 pub returns-in-AtOne : goal.returns-in-AtOne

@@ -1,7 +1,6 @@
 -- `formula::formula_step` meets its contract. Assumes nothing.
 use Rattle.format.proofs.FormulaLaws.{dead_stays}
 use Rattle.formula.proofs.MoveLaws.{stays, at_state}
-use borrow.Author.Rules.{rules}
 use Rattle.formula.proofs.formula_step.Goals as goal
 
 pub returns-in-Dead : goal.returns-in-Dead

@@ -2,7 +2,6 @@
 use mathlib.Core.Path.{sym, ◌∙◌}
 use Rattle.format.proofs.FormulaLaws.{leave_upper, leave_part}
 use Rattle.formula.proofs.MoveLaws.{told, renamed}
-use borrow.Author.Rules.{rules}
 use Rattle.formula.proofs.leave_step.Goals as goal
 
 pub returns-then-is_upper : goal.returns-then-is_upper

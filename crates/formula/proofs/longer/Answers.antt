@@ -1,7 +1,6 @@
 -- `formula::longer` meets its contract. Assumes nothing.
 use native.Mathlib.Omega.{arith}
 use Rattle.format.proofs.ByteLaws.{digit_bounds}
-use borrow.Author.Rules.{rules}
 use Rattle.formula.proofs.longer.Goals as goal
 
 pub overflow_sub-result : goal.overflow_sub-result

@@ -3,7 +3,6 @@ use mathlib.Core.Path.{sym, ◌∙◌}
 use native.Mathlib.Omega.{arith}
 use Rattle.format.proofs.FormulaLaws.{mass_long, mass_upper, mass_dead}
 use Rattle.formula.proofs.MoveLaws.{stays, mass_grows}
-use borrow.Author.Rules.{rules}
 use Rattle.formula.proofs.mass_step.Goals as goal
 
 pub longer-requires : goal.longer-requires

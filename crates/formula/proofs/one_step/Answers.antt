@@ -6,7 +6,6 @@ use borrow.Author.Tests.{eq-eqb, ne_eqb}
 use Rattle.format.proofs.FormulaLaws.{one_lower, one_other, count_or_digit, count_or_slash, count_or_other}
 use Rattle.formula.proofs.StepLaws.{one_digit}
 use Rattle.formula.proofs.MoveLaws.{stays, renamed}
-use borrow.Author.Rules.{rules}
 use Rattle.formula.proofs.one_step.Goals as goal
 
 pub returns-then-is_lower : goal.returns-then-is_lower

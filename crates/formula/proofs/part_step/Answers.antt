@@ -3,7 +3,6 @@ use mathlib.Core.Path.{sym, ◌∙◌}
 use borrow.Author.Tests.{eq-eqb, ne_eqb}
 use Rattle.format.proofs.FormulaLaws.{part_gap, part_star, part_dead}
 use Rattle.formula.proofs.MoveLaws.{stays, told}
-use borrow.Author.Rules.{rules}
 use Rattle.formula.proofs.part_step.Goals as goal
 
 pub returns-then-is_gap : goal.returns-then-is_gap

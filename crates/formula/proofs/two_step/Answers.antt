@@ -6,7 +6,6 @@ use borrow.Author.Tests.{eq-eqb, ne_eqb}
 use Rattle.format.proofs.FormulaLaws.{two_is, count_or_digit, count_or_slash, count_or_other}
 use Rattle.formula.proofs.StepLaws.{one_digit}
 use Rattle.formula.proofs.MoveLaws.{stays, renamed}
-use borrow.Author.Rules.{rules}
 use Rattle.formula.proofs.two_step.Goals as goal
 
 pub overflow_sub-result : goal.overflow_sub-result

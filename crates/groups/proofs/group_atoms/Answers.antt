@@ -2,7 +2,6 @@
 use mathlib.Core.Path.{refl}
 use native.Mathlib.Omega.{arith}
 use Rattle.groups.proofs.GroupLaws.{grouped}
-use borrow.Author.Rules.{rules}
 use Rattle.groups.proofs.group_atoms.Goals as goal
 
 pub returns-then-labels-lt-ATOMS : goal.returns-then-labels-lt-ATOMS

@@ -1,7 +1,6 @@
 -- `groups::lowest_atoms` meets its contract. Assumes nothing.
 use native.Mathlib.Omega.{arith}
 use Rattle.groups.proofs.GroupLaws.{started, ended}
-use borrow.Author.Rules.{rules}
 use Rattle.groups.proofs.lowest_atoms.Goals as goal
 
 pub returns-then-is_one_group : goal.returns-then-is_one_group

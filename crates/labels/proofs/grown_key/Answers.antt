@@ -1,7 +1,6 @@
 -- `labels::grown_key` meets its contract. Assumes nothing.
 use mathlib.Core.Path.{sym, ◌∙◌}
 use Rattle.labels.proofs.KeyLaws.{grown_more, grown_longer}
-use borrow.Author.Rules.{rules}
 use Rattle.labels.proofs.grown_key.Goals as goal
 
 pub returns-then-key-lt36028797018963968 : goal.returns-then-key-lt36028797018963968

@@ -1,6 +1,5 @@
 -- `labels::is_title_line` meets its contract. Assumes nothing.
 use Rattle.labels.proofs.LabelLaws.{title_told}
-use borrow.Author.Rules.{rules}
 use Rattle.labels.proofs.is_title_line.Goals as goal
 
 pub returns-in-Plain : goal.returns-in-Plain

@@ -3,7 +3,6 @@ use mathlib.Core.Path.{sym, ◌∙◌}
 use Rattle.format.proofs.ByteLaws.{upper_bounds, lower_bounds}
 use native.Mathlib.Omega.{arith}
 use Rattle.labels.proofs.KeyLaws.{next_upper, next_lower, next_dropped, next_strange}
-use borrow.Author.Rules.{rules}
 use Rattle.labels.proofs.next_key.Goals as goal
 
 pub overflow_sub-b : goal.overflow_sub-b

@@ -1,10 +1,5 @@
 -- `lines::blank` meets its contract. Assumes nothing.
-use Prim.Native.Nat.{◌-◌}
-use mathlib.Core.Path.{◌≡◌, refl, sym, ◌∙◌}
-use borrow.Author.Rules.{rules}
-use borrow.Author.Tests.{not-true, not-false}
-use lib.ListN.{length, drop}
-use Rattle.lists.specs.Lists.{all}
+use mathlib.Core.Path.{refl, sym, ◌∙◌}
 use Rattle.lists.proofs.ListLaws.{all_step, all_miss, all_end}
 use Rattle.format.specs.Bytes.{gap}
 use Rattle.lines.proofs.blank.Goals as goal

@@ -1,10 +1,6 @@
 -- `lines::clean_end` meets its contract: where the line ends and whether its bytes are allowed stay the same from byte to byte. Assumes nothing.
-use Prim.Native.Nat.{◌-◌}
 use mathlib.Core.Path.{sym, ◌∙◌}
-use borrow.Author.Rules.{rules}
 use borrow.Author.Tests.{le-leb}
-use lib.ListN.{length}
-use Rattle.lines.specs.Looks.{Looking}
 use Rattle.lines.proofs.LineLaws.{looked_all, looked_feed, looked_wrong, looks_on, looks_past}
 use Rattle.lines.proofs.clean_end.Goals as goal
 

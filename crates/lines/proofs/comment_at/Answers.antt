@@ -1,7 +1,6 @@
 -- `lines::comment_at` meets its contract. Assumes nothing.
 use mathlib.Core.Path.{sym}
 use Rattle.lines.proofs.LineLaws.{comment_end, comment_other, comment_last, comment_two}
-use borrow.Author.Rules.{rules}
 use Rattle.lines.proofs.comment_at.Goals as goal
 
 pub returns-then-line-at : goal.returns-then-line-at

@@ -1,11 +1,8 @@
 -- `lines::line_end` meets its contract. Assumes nothing.
 use Prim.Native.Nat.{◌+◌, ◌-◌}
-use mathlib.Core.Path.{◌≡◌, sym, ◌∙◌}
-use borrow.Author.Rules.{rules}
+use mathlib.Core.Path.{◌≡◌}
 use lib.ListN.{length, drop}
 use Rattle.format.specs.Bytes.{line_len}
-use Rattle.lines.proofs.LineLaws.{ends}
-use Rattle.format.proofs.CutLaws.{len_at_hit, len_at_miss, len_at_end}
 use Rattle.lines.proofs.line_end.Given as goal
 
 abbrev pub invariant-loop-i : goal.invariant-loop-i

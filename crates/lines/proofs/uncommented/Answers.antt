@@ -1,10 +1,6 @@
 -- `lines::uncommented` meets its contract. Assumes nothing.
-use Prim.Native.Nat.{◌+◌, ◌-◌}
-use mathlib.Core.Path.{◌≡◌, sym, ◌∙◌}
+use mathlib.Core.Path.{sym, ◌∙◌}
 use native.Mathlib.Nat.{zero-add}
-use borrow.Author.Rules.{rules}
-use lib.ListN.{length, drop}
-use Rattle.format.specs.Bytes.{strip}
 use Rattle.format.proofs.ByteLaws.{strip_at_end}
 use Rattle.lines.proofs.LineLaws.{strip_hit, strip_miss, uncomments}
 use Rattle.lines.proofs.uncommented.Goals as goal

@@ -1,12 +1,8 @@
 -- `lines::uncommented` meets its contract. Assumes nothing.
 use Prim.Native.Nat.{◌+◌, ◌-◌}
-use mathlib.Core.Path.{◌≡◌, sym, ◌∙◌}
-use native.Mathlib.Nat.{zero-add}
-use borrow.Author.Rules.{rules}
+use mathlib.Core.Path.{◌≡◌}
 use lib.ListN.{length, drop}
 use Rattle.format.specs.Bytes.{strip}
-use Rattle.format.proofs.ByteLaws.{strip_at_end}
-use Rattle.lines.proofs.LineLaws.{strip_hit, strip_miss, uncomments}
 use Rattle.lines.proofs.uncommented.Given as goal
 
 abbrev pub invariant-loop-i : goal.invariant-loop-i

@@ -1,9 +1,7 @@
 -- `molform::entry_verdict` meets its contract. Assumes nothing.
 use mathlib.Core.Path.{sym, ◌∙◌}
 use native.Mathlib.Omega.{arith}
-use borrow.Author.Tests.{not-true, not-false}
 use Rattle.molform.proofs.VerdictLaws.{wrong_mass, count_under, count_over, symbol_unknown, symbol_known}
-use borrow.Author.Rules.{rules}
 use Rattle.molform.proofs.entry_verdict.Goals as goal
 
 pub returns-then-not-mass_fits : goal.returns-then-not-mass_fits

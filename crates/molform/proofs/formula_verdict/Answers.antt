@@ -1,12 +1,7 @@
 -- `molform::formula_verdict` meets its contract. Assumes nothing.
-use Prim.Native.Nat.{◌-◌}
-use mathlib.Core.Path.{◌≡◌, sym, ◌∙◌}
-use borrow.Author.Rules.{rules}
-use lib.ListN.{length}
-use Rattle.format.specs.Formula.{formula_shape}
-use Rattle.formula.specs.Machine.{Sized}
-use Rattle.molform.proofs.PassLaws.{whole_from, pass_on, pass_end}
-use Rattle.molform.specs.Verdicts.{formula_verdict, refusal_with}
+use mathlib.Core.Path.{sym, ◌∙◌}
+use Rattle.molform.proofs.PassLaws.{pass_on, pass_end}
+use Rattle.molform.specs.Verdicts.{refusal_with}
 use Rattle.molform.proofs.formula_verdict.Goals as goal
 
 pub loop-i-init : goal.loop-i-init

@@ -1,11 +1,10 @@
 -- `molform::formula_verdict` meets its contract. Assumes nothing.
 use Prim.Native.Nat.{◌-◌}
-use mathlib.Core.Path.{◌≡◌, sym, ◌∙◌}
-use borrow.Author.Rules.{rules}
+use mathlib.Core.Path.{◌≡◌}
 use lib.ListN.{length}
 use Rattle.format.specs.Formula.{formula_shape}
 use Rattle.formula.specs.Machine.{Sized}
-use Rattle.molform.proofs.PassLaws.{whole_from, pass_on, pass_end}
+use Rattle.molform.proofs.PassLaws.{whole_from}
 use Rattle.molform.specs.Verdicts.{formula_verdict, refusal_with}
 use Rattle.molform.proofs.formula_verdict.Given as goal
 

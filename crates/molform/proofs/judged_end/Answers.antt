@@ -4,7 +4,6 @@ use Rattle.molform.specs.Verdicts.{refusal_with}
 use Rattle.molform.specs.Verdicts.{lowest}
 use Rattle.molform.proofs.PassLaws.{ended}
 use Rattle.molform.proofs.VerdictLaws.{refusal_nothing}
-use borrow.Author.Rules.{rules}
 use Rattle.molform.proofs.judged_end.Goals as goal
 
 pub returns-in-Unshaped : goal.returns-in-Unshaped

@@ -1,11 +1,7 @@
 -- `molform::judged_lead` meets its contract. Assumes nothing.
-use Prim.Native.Nat.{◌-◌}
 use native.Mathlib.Omega.{arith}
-use borrow.Author.Rules.{rules}
-use lib.ListN.{length}
 use Rattle.formula.proofs.EntryLaws.{entry_told}
 use Rattle.molform.specs.Verdicts.{refusal_with}
-use Rattle.molform.specs.Passes.{lead_of, Leads}
 use Rattle.molform.proofs.PassLaws.{lead_start, lead_on}
 use Rattle.molform.proofs.VerdictLaws.{refusal_told}
 use Rattle.molform.proofs.judged_lead.Goals as goal

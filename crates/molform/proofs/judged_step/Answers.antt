@@ -2,7 +2,6 @@
 use Rattle.molform.specs.Verdicts.{refusal_with}
 use Rattle.molform.proofs.PassLaws.{still_carried, tells_carried}
 use Rattle.molform.proofs.VerdictLaws.{refusal_told}
-use borrow.Author.Rules.{rules}
 use Rattle.molform.proofs.judged_step.Goals as goal
 
 pub returns-in-Still : goal.returns-in-Still

@@ -2,7 +2,6 @@
 use mathlib.Core.Path.{sym, ap, ◌∙◌}
 use Rattle.molform.specs.Verdicts.{lowest}
 use Rattle.molform.proofs.VerdictLaws.{lowest_none, lowest_first, lowest_second}
-use borrow.Author.Rules.{rules}
 use Rattle.molform.proofs.lower_refusal.Goals as goal
 
 pub returns-then-other-eq0 : goal.returns-then-other-eq0

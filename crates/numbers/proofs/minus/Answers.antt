@@ -1,7 +1,6 @@
 -- `numbers::minus` meets its contract. Assumes nothing.
 use mathlib.Core.Path.{ap, sym}
 use Rattle.numbers.specs.ShownNumbers.{minus_of}
-use borrow.Author.Rules.{rules}
 use Rattle.numbers.proofs.minus.Goals as goal
 
 pub returns-in-Value : goal.returns-in-Value

@@ -1,6 +1,5 @@
 -- `numbers::number` meets its contract. Assumes nothing.
 use Rattle.format.specs.Rows.{number}
-use borrow.Author.Rules.{rules}
 use Rattle.numbers.proofs.number.Goals as goal
 
 pub returns : goal.returns

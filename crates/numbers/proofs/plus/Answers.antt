@@ -1,7 +1,6 @@
 -- `numbers::plus` meets its contract. Assumes nothing.
 use mathlib.Core.Path.{ap, sym}
 use Rattle.numbers.specs.ShownNumbers.{plus_of}
-use borrow.Author.Rules.{rules}
 use Rattle.numbers.proofs.plus.Goals as goal
 
 pub returns-in-Value : goal.returns-in-Value

@@ -1,6 +1,5 @@
 -- `numbers::signed` meets its contract. Assumes nothing.
 use Rattle.numbers.proofs.NumeralLaws.{shows_no_sign, signed_none, plus_behind, minus_behind, plus_bare}
-use borrow.Author.Rules.{rules}
 use Rattle.numbers.proofs.signed.Goals as goal
 
 pub returns-then-word-lt1 : goal.returns-then-word-lt1

@@ -1,7 +1,6 @@
 -- `printing::ink` meets its contract. Assumes nothing.
 use mathlib.Core.Path.{sym}
 use lib.Seq.{set_out}
-use borrow.Author.Rules.{rules}
 use Rattle.printing.proofs.ink.Goals as goal
 
 pub returns : goal.returns

@@ -1,10 +1,7 @@
 -- `printing::lay` meets its contract. Assumes nothing.
-use Prim.Native.Nat.{◌+◌, ◌-◌, ◌≤◌}
-use mathlib.Core.Path.{◌≡◌, refl}
+use mathlib.Core.Path.{refl}
 use native.Mathlib.Omega.{arith}
-use lib.ListN.{length, drop, length-set}
-use borrow.Author.Rules.{rules}
-use Rattle.printing.specs.Printing.{Rests}
+use lib.ListN.{length-set}
 use Rattle.printing.proofs.PrintLaws.{rest_all, lay_on, lay_end}
 use Rattle.printing.proofs.lay.Goals as goal
 

@@ -1,11 +1,8 @@
 -- `printing::lay` meets its contract. Assumes nothing.
 use Prim.Native.Nat.{◌+◌, ◌-◌, ◌≤◌}
-use mathlib.Core.Path.{◌≡◌, refl}
-use native.Mathlib.Omega.{arith}
-use lib.ListN.{length, drop, length-set}
-use borrow.Author.Rules.{rules}
+use mathlib.Core.Path.{◌≡◌}
+use lib.ListN.{length, drop}
 use Rattle.printing.specs.Printing.{Rests}
-use Rattle.printing.proofs.PrintLaws.{rest_all, lay_on, lay_end}
 use Rattle.printing.proofs.lay.Given as goal
 
 abbrev pub invariant-loop-i : goal.invariant-loop-i

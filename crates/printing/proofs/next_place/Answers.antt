@@ -1,7 +1,6 @@
 -- `printing::next_place` meets its contract. Assumes nothing.
 use Rattle.printing.proofs.PrintLaws.{next_in, next_out}
 use native.Mathlib.Omega.{arith}
-use borrow.Author.Rules.{rules}
 use Rattle.printing.proofs.next_place.Goals as goal
 
 pub returns-then-at-le-BLOCK : goal.returns-then-at-le-BLOCK

@@ -1,6 +1,5 @@
 -- `printing::put` meets its contract. Assumes nothing.
 use Rattle.printing.proofs.PrintLaws.{laid_byte}
-use borrow.Author.Rules.{rules}
 use Rattle.printing.proofs.put.Goals as goal
 
 pub returns : goal.returns

@@ -1,7 +1,6 @@
 -- `printing::put_behind` meets its contract. Assumes nothing.
 use Rattle.printing.proofs.PrintLaws.{laid_then, laid_as}
 use Rattle.printing.proofs.NumberLaws.{behind_single, behind_double}
-use borrow.Author.Rules.{rules}
 use Rattle.printing.proofs.put_behind.Goals as goal
 
 pub returns-then-number-lt10 : goal.returns-then-number-lt10

@@ -1,10 +1,7 @@
 -- `printing::put_each` meets its contract. Assumes nothing.
-use Prim.Native.Nat.{◌-◌, ◌≤◌}
-use mathlib.Core.Path.{◌≡◌, refl}
+use mathlib.Core.Path.{refl}
 use native.Mathlib.Omega.{arith}
-use lib.ListN.{length, drop, drop_of_length-le}
-use borrow.Author.Rules.{rules}
-use Rattle.printing.specs.Printing.{Rests}
+use lib.ListN.{drop_of_length-le}
 use Rattle.printing.proofs.PrintLaws.{rest_all, text_on, rest_none}
 use Rattle.printing.proofs.put_each.Goals as goal
 

@@ -1,11 +1,8 @@
 -- `printing::put_each` meets its contract. Assumes nothing.
 use Prim.Native.Nat.{◌-◌, ◌≤◌}
-use mathlib.Core.Path.{◌≡◌, refl}
-use native.Mathlib.Omega.{arith}
-use lib.ListN.{length, drop, drop_of_length-le}
-use borrow.Author.Rules.{rules}
+use mathlib.Core.Path.{◌≡◌}
+use lib.ListN.{length, drop}
 use Rattle.printing.specs.Printing.{Rests}
-use Rattle.printing.proofs.PrintLaws.{rest_all, text_on, rest_none}
 use Rattle.printing.proofs.put_each.Given as goal
 
 abbrev pub invariant-loop-i : goal.invariant-loop-i

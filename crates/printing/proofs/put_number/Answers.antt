@@ -1,7 +1,6 @@
 -- `printing::put_number` meets its contract. Assumes nothing.
 use Rattle.printing.proofs.PrintLaws.{laid_as}
 use Rattle.printing.proofs.NumberLaws.{digits_single, digits_double, digits_triple, digits_laid}
-use borrow.Author.Rules.{rules}
 use Rattle.printing.proofs.put_number.Goals as goal
 
 pub returns-then-number-lt10 : goal.returns-then-number-lt10

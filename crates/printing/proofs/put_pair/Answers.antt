@@ -2,7 +2,6 @@
 use native.Mathlib.Omega.{arith}
 use lib.ListN.{length-set}
 use Rattle.printing.proofs.PrintLaws.{laid_then, laid_pair}
-use borrow.Author.Rules.{rules}
 use Rattle.printing.proofs.put_pair.Goals as goal
 
 pub bounds-buffer-at-then-at-buffer : goal.bounds-buffer-at-then-at-buffer

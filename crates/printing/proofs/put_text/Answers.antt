@@ -1,6 +1,5 @@
 -- `printing::put_text` meets its contract. Assumes nothing.
 use native.Mathlib.Omega.{arith}
-use borrow.Author.Rules.{rules}
 use Rattle.printing.proofs.PrintLaws.{laid_short}
 use Rattle.printing.proofs.put_text.Goals as goal
 

@@ -1,7 +1,6 @@
 -- `printing::put_unless_zero` meets its contract. Assumes nothing.
 use Rattle.printing.proofs.PrintLaws.{laid_none, laid_as}
 use Rattle.printing.proofs.NumberLaws.{zero_left_out, unless_zero_lem}
-use borrow.Author.Rules.{rules}
 use Rattle.printing.proofs.put_unless_zero.Goals as goal
 
 pub returns-then-number-eq0 : goal.returns-then-number-eq0

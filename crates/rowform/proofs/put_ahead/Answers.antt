@@ -1,7 +1,6 @@
 -- `rowform::put_ahead` meets its contract. Assumes nothing.
 use Rattle.printing.proofs.PrintLaws.{laid_then, laid_as}
 use Rattle.rowform.proofs.LineLaws.{ahead_single, ahead_double}
-use borrow.Author.Rules.{rules}
 use Rattle.rowform.proofs.put_ahead.Goals as goal
 
 pub returns-then-number-lt10 : goal.returns-then-number-lt10

@@ -3,7 +3,6 @@ use native.Mathlib.Omega.{arith}
 use Rattle.printing.proofs.PrintLaws.{untouched}
 use Rattle.format.proofs.PlaceLaws.{atom_small}
 use Rattle.rowform.proofs.LineLaws.{atom_laid}
-use borrow.Author.Rules.{rules}
 use Rattle.rowform.proofs.put_atom.Goals as goal
 
 pub returns-then-i-ge-ATOMS : goal.returns-then-i-ge-ATOMS

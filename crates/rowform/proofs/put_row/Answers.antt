@@ -3,7 +3,6 @@ use Rattle.rowform.specs.declared.Listed.TheVariants.{Bond, Charge, Radical, Cen
 use Rattle.printing.proofs.PrintLaws.{untouched}
 use Rattle.rowform.proofs.RowLaws.{row_printed}
 use native.Mathlib.Omega.{arith}
-use borrow.Author.Rules.{rules}
 use Rattle.rowform.proofs.put_row.Goals as goal
 
 pub returns-then-i-ge-BONDS : goal.returns-then-i-ge-BONDS

@@ -1,6 +1,5 @@
 -- `spelling::letters_of` meets its contract. Assumes nothing.
 use Rattle.spelling.proofs.LetterTable.{letters_in}
-use borrow.Author.Rules.{rules}
 use Rattle.spelling.proofs.letters_of.Goals as goal
 
 pub returns : goal.returns

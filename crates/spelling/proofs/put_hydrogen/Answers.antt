@@ -1,7 +1,6 @@
 -- `spelling::put_hydrogen` meets its contract. Assumes nothing.
 use Rattle.printing.proofs.PrintLaws.{laid_as}
 use Rattle.spelling.proofs.SpellLaws.{deuterium, tritium, hydrogen}
-use borrow.Author.Rules.{rules}
 use Rattle.spelling.proofs.put_hydrogen.Goals as goal
 
 pub returns-then-mass-eq2 : goal.returns-then-mass-eq2

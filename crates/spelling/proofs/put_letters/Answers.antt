@@ -1,7 +1,6 @@
 -- `spelling::put_letters` meets its contract. Assumes nothing.
 use Rattle.printing.proofs.PrintLaws.{laid_then, laid_as}
 use Rattle.spelling.proofs.SpellLaws.{letter_one, letter_two}
-use borrow.Author.Rules.{rules}
 use Rattle.spelling.proofs.put_letters.Goals as goal
 
 pub returns-then-second-eq0 : goal.returns-then-second-eq0

@@ -1,7 +1,6 @@
 -- `spelling::put_mass` meets its contract. Assumes nothing.
 use Rattle.printing.proofs.PrintLaws.{laid_none, laid_then, laid_as}
 use Rattle.spelling.proofs.SpellLaws.{mass_none, mass_some}
-use borrow.Author.Rules.{rules}
 use Rattle.spelling.proofs.put_mass.Goals as goal
 
 pub returns-then-mass-eq0 : goal.returns-then-mass-eq0

@@ -1,6 +1,5 @@
 -- `spelling::put_plain` meets its contract. Assumes nothing.
 use Rattle.spelling.proofs.SpellLaws.{plain_laid}
-use borrow.Author.Rules.{rules}
 use Rattle.spelling.proofs.put_plain.Goals as goal
 
 pub returns : goal.returns

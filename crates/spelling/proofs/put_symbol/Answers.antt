@@ -1,7 +1,6 @@
 -- `spelling::put_symbol` meets its contract. Assumes nothing.
 use Rattle.printing.proofs.PrintLaws.{laid_as}
 use Rattle.spelling.proofs.SpellLaws.{is_hydrogen, other}
-use borrow.Author.Rules.{rules}
 use Rattle.spelling.proofs.put_symbol.Goals as goal
 
 pub returns-then-element-eq1 : goal.returns-then-element-eq1

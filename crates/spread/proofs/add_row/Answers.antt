@@ -2,10 +2,7 @@
 use native.Mathlib.Omega.{arith}
 use mathlib.Core.Path.{sym, ◌∙◌}
 use lib.ListN.{length-set}
-use borrow.Author.Tests.{not-true, not-false, leb-true, leb-false}
-use Rattle.spread.proofs.SpreadRowLaws.{stop_few, kept_few, room, listed_within, shows_11, shows_13, shows_14, shows_kept}
-use borrow.Author.Rules.{rules}
-use Rattle.lists.proofs.Bools.{not_of_true}
+use Rattle.spread.proofs.SpreadRowLaws.{stop_few, kept_few, listed_within, shows_11, shows_13, shows_14, shows_kept}
 use Rattle.spread.proofs.add_row.Goals as goal
 
 pub returns-then-not-all_listed : goal.returns-then-not-all_listed

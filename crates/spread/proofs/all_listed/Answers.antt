@@ -1,12 +1,6 @@
 -- `spread::all_listed` meets its contract. Assumes nothing.
-use Prim.Native.Nat.{◌-◌, ◌≤◌}
-use mathlib.Core.Path.{◌≡◌, refl, sym, ◌∙◌}
+use mathlib.Core.Path.{refl, sym, ◌∙◌}
 use native.Mathlib.Omega.{arith}
-use borrow.Author.Rules.{rules}
-use lib.ListN.{length, drop}
-use Rattle.lists.specs.Lists.{all}
-use Rattle.format.specs.Bytes.{within, fields}
-use Rattle.spread.specs.Members.{members_in}
 use Rattle.spread.proofs.MemberLaws.{met_number, listed_none, listed_end, listed_wrong, listed_low, listed_high, listed_step}
 use Rattle.spread.proofs.all_listed.Goals as goal
 

@@ -1,13 +1,10 @@
 -- `spread::all_listed` meets its contract. Assumes nothing.
 use Prim.Native.Nat.{◌-◌, ◌≤◌}
-use mathlib.Core.Path.{◌≡◌, refl, sym, ◌∙◌}
-use native.Mathlib.Omega.{arith}
-use borrow.Author.Rules.{rules}
+use mathlib.Core.Path.{◌≡◌}
 use lib.ListN.{length, drop}
 use Rattle.lists.specs.Lists.{all}
 use Rattle.format.specs.Bytes.{within, fields}
 use Rattle.spread.specs.Members.{members_in}
-use Rattle.spread.proofs.MemberLaws.{met_number, listed_none, listed_end, listed_wrong, listed_low, listed_high, listed_step}
 use Rattle.spread.proofs.all_listed.Given as goal
 
 abbrev pub invariant-loop-i : goal.invariant-loop-i

@@ -1,13 +1,10 @@
 -- `spread::all_numbers` meets its contract. Assumes nothing.
 use Prim.Native.Nat.{◌-◌, ◌≤◌}
-use mathlib.Core.Path.{◌≡◌, refl, sym, ◌∙◌}
-use native.Mathlib.Omega.{arith}
-use borrow.Author.Rules.{rules}
+use mathlib.Core.Path.{◌≡◌}
 use lib.ListN.{length, drop}
 use Rattle.lists.specs.Lists.{all}
 use Rattle.format.specs.Bytes.{fields}
 use Rattle.spread.specs.Members.{is_number}
-use Rattle.spread.proofs.MemberLaws.{met_number, numbers_none, numbers_end, numbers_wrong, numbers_step}
 use Rattle.spread.proofs.all_numbers.Given as goal
 
 abbrev pub invariant-loop-i : goal.invariant-loop-i

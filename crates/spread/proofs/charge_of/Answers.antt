@@ -2,7 +2,6 @@
 use mathlib.Core.Path.{refl}
 use native.Mathlib.Omega.{arith}
 use Rattle.spread.proofs.MemberLaws.{charge_wrong, charge_plus, charge_minus, minus_size, minus_coded, charge_low, charge_high, charge_in}
-use borrow.Author.Rules.{rules}
 use Rattle.spread.proofs.charge_of.Goals as goal
 
 pub returns-then-n-lt1 : goal.returns-then-n-lt1

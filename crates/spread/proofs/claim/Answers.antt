@@ -2,7 +2,6 @@
 use mathlib.Core.Path.{refl, ◌∙◌}
 use lib.ListN.{length-set}
 use Rattle.spread.proofs.MemberLaws.{listed_right, void_free, void_taken, claimed_none, claimed_same, shows_some, shows_none}
-use borrow.Author.Rules.{rules}
 use Rattle.spread.proofs.claim.Goals as goal
 
 pub returns-then-region-ne0 : goal.returns-then-region-ne0

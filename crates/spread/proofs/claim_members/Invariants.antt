@@ -1,14 +1,11 @@
 -- `spread::claim_members` meets its contract. Assumes nothing.
 use Prim.Native.Nat.{◌-◌, ◌≤◌}
 use mathlib.Core.Bool.{true}
-use mathlib.Core.Path.{◌≡◌, refl, ◌∙◌}
-use native.Mathlib.Omega.{arith}
-use borrow.Author.Rules.{rules}
-use lib.ListN.{length, length-set, drop}
+use mathlib.Core.Path.{◌≡◌}
+use lib.ListN.{length, drop}
 use Rattle.lists.specs.Lists.{all}
 use Rattle.format.specs.Bytes.{within, fields}
 use Rattle.spread.specs.Members.{members_in, claims}
-use Rattle.spread.proofs.MemberLaws.{met_number, listed_parts, listed_right, member_place, claim_none, claim_end, claim_taken, claim_free, shows_some, shows_none}
 use Rattle.spread.proofs.claim_members.Given as goal
 
 abbrev pub invariant-loop-i : goal.invariant-loop-i

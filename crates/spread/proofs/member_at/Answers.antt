@@ -1,6 +1,5 @@
 -- `spread::member_at` meets its contract. Assumes nothing.
 use Rattle.spread.proofs.MemberLaws.{member_none, member_wrong, member_number}
-use borrow.Author.Rules.{rules}
 use Rattle.spread.proofs.member_at.Goals as goal
 
 pub returns-then-from-to : goal.returns-then-from-to

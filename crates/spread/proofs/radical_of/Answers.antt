@@ -1,6 +1,5 @@
 -- `spread::radical_of` meets its contract. Assumes nothing.
 use Rattle.spread.proofs.MemberLaws.{radical_wrong, radical_low, radical_high, radical_in}
-use borrow.Author.Rules.{rules}
 use Rattle.spread.proofs.radical_of.Goals as goal
 
 pub returns-in_default : goal.returns-in_default

@@ -1,10 +1,8 @@
 -- `spread::spread_line` meets its contract. Assumes nothing.
 use mathlib.Core.Path.{refl, sym, ◌∙◌}
 use lib.ListN.{length}
-use borrow.Author.Tests.{not-true, not-false}
 use Rattle.sorted.proofs.KeyedLaws.{line_within, refused_within, handed_within, fits_parts, fits_not}
 use Rattle.spread.proofs.SpreadLineLaws.{values_torn, shows_blank, shows_refused, members_high, shows_row, some_field}
-use borrow.Author.Rules.{rules}
 use Rattle.spread.proofs.spread_line.Goals as goal
 
 pub returns-then-not-region_fits : goal.returns-then-not-region_fits

@@ -1,8 +1,6 @@
 -- `spread::spread_row` meets its contract. Assumes nothing.
 use mathlib.Core.Path.{sym, ◌∙◌}
-use borrow.Author.Tests.{not-true, not-false}
 use Rattle.spread.proofs.SpreadLineLaws.{row_wrong, row_unnumbered, row_beyond, row_values}
-use borrow.Author.Rules.{rules}
 use Rattle.spread.proofs.spread_row.Goals as goal
 
 pub returns-in_default : goal.returns-in_default

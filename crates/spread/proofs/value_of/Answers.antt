@@ -2,7 +2,6 @@
 use mathlib.Core.Bool.{Bool}
 use mathlib.Core.Path.{subst, sym}
 use Rattle.spread.specs.Members.{ShowsValue}
-use borrow.Author.Rules.{rules}
 use Rattle.spread.proofs.value_of.Goals as goal
 
 pub returns-then-signed : goal.returns-then-signed

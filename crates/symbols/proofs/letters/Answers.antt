@@ -1,8 +1,6 @@
 -- `symbols::letters` meets its contract. Assumes nothing.
 use mathlib.Core.Path.{sym, ◌∙◌}
-use borrow.Author.Tests.{not-true, not-false}
 use Rattle.symbols.proofs.SpellingLaws.{letters_none, letters_long, letters_low, letters_one, letters_upper, letters_two}
-use borrow.Author.Rules.{rules}
 use Rattle.symbols.proofs.letters.Goals as goal
 
 pub returns-then-word-lt1 : goal.returns-then-word-lt1

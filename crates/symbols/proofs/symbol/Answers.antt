@@ -1,7 +1,6 @@
 -- `symbols::symbol` meets its contract. Assumes nothing.
 use mathlib.Core.Path.{sym, ◌∙◌}
 use Rattle.symbols.proofs.SpellingLaws.{shows_symbol, symbol_none, symbol_massed, symbol_lettered}
-use borrow.Author.Rules.{rules}
 use Rattle.symbols.proofs.symbol.Goals as goal
 
 pub returns-then-word-lt1 : goal.returns-then-word-lt1

@@ -2,7 +2,6 @@
 use mathlib.Core.Path.{sym, ◌∙◌}
 use native.Mathlib.Omega.{arith}
 use Rattle.symbols.proofs.SpellingLaws.{mass_none, mass_some}
-use borrow.Author.Rules.{rules}
 use Rattle.symbols.proofs.with_mass.Goals as goal
 
 pub slice_bounds-mass-end : goal.slice_bounds-mass-end

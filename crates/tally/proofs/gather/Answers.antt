@@ -1,11 +1,10 @@
 -- `tally::gather` meets its contract. Assumes nothing.
-use Prim.Native.Nat.{◌*◌, ◌-◌, ◌≤◌}
+use Prim.Native.Nat.{◌*◌}
 use mathlib.Core.Path.{refl}
 use native.Mathlib.Omega.{arith}
-use borrow.Author.Rules.{rules}
 use Rattle.tally.specs.Gathering.{atom_no}
 use Rattle.tally.proofs.KeyLaws.{key_or_high}
-use Rattle.tally.proofs.GatherLaws.{Passed, passed_none, passed_up, passed_small, passed_left, passed_on, passed_one, room_left, no_labels, no_kind, no_hydrogens, gathered}
+use Rattle.tally.proofs.GatherLaws.{passed_none, passed_up, passed_small, passed_left, passed_on, passed_one, room_left, no_labels, no_kind, no_hydrogens, gathered}
 use Rattle.tally.proofs.gather.Goals as goal
 
 pub returns-then-labels-atoms : goal.returns-then-labels-atoms

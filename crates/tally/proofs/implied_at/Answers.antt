@@ -2,7 +2,6 @@
 use native.Mathlib.Omega.{arith}
 use Rattle.format.proofs.PlaceLaws.{atom_small}
 use Rattle.tally.proofs.AtomLaws.{implied_read}
-use borrow.Author.Rules.{rules}
 use Rattle.tally.proofs.implied_at.Goals as goal
 
 pub overflow_add-atom : goal.overflow_add-atom

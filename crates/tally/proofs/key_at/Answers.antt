@@ -2,7 +2,6 @@
 use native.Mathlib.Omega.{arith}
 use Rattle.format.proofs.PlaceLaws.{atom_small}
 use Rattle.tally.proofs.AtomLaws.{key_read}
-use borrow.Author.Rules.{rules}
 use Rattle.tally.proofs.key_at.Goals as goal
 
 pub overflow_add-place : goal.overflow_add-place

@@ -2,7 +2,6 @@
 use mathlib.Core.Path.{refl}
 use native.Mathlib.Omega.{arith}
 use Rattle.tally.proofs.GatherLaws.{left_same, left_none, left_added}
-use borrow.Author.Rules.{rules}
 use Rattle.tally.proofs.leave_group.Goals as goal
 
 pub returns-then-group-next : goal.returns-then-group-next

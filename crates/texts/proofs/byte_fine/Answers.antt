@@ -1,6 +1,5 @@
 -- `texts::byte_fine` meets its contract. Assumes nothing.
 use Rattle.texts.proofs.TextSpanLaws.{byte_seen, byte_not, byte_label}
-use borrow.Author.Rules.{rules}
 use Rattle.lists.proofs.Bools.{not_of_false, not_of_true}
 use Rattle.texts.proofs.byte_fine.Goals as goal
 

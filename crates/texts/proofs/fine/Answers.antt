@@ -1,7 +1,6 @@
 -- `texts::fine` meets its contract. Assumes nothing.
 use mathlib.Core.Path.{sym, ◌∙◌}
 use Rattle.texts.proofs.TextSpanLaws.{untrimmed, fine_plain}
-use borrow.Author.Rules.{rules}
 use Rattle.texts.proofs.fine.Goals as goal
 
 pub returns-then-kept-text : goal.returns-then-kept-text

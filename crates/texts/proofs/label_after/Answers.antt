@@ -1,7 +1,6 @@
 -- `texts::label_after` meets its contract. Assumes nothing.
 use mathlib.Core.Path.{sym}
 use Rattle.texts.proofs.TextSpanLaws.{after_other, after_short, after_one, after_two}
-use borrow.Author.Rules.{rules}
 use Rattle.texts.proofs.label_after.Goals as goal
 
 pub returns-then-text-at-ne10 : goal.returns-then-text-at-ne10

@@ -1,7 +1,6 @@
 -- `texts::named` meets its contract. Assumes nothing.
 use mathlib.Core.Path.{◌∙◌}
 use Rattle.texts.proofs.TextSpanLaws.{named_is}
-use borrow.Author.Rules.{rules}
 use Rattle.texts.proofs.named.Goals as goal
 
 pub returns : goal.returns

@@ -1,9 +1,6 @@
 -- `texts::plain` meets its contract. Assumes nothing.
-use Prim.Native.Nat.{◌-◌}
-use mathlib.Core.Path.{◌≡◌, refl, sym, ◌∙◌}
+use mathlib.Core.Path.{refl, sym, ◌∙◌}
 use native.Mathlib.Omega.{arith}
-use lib.ListN.{length, drop}
-use Rattle.texts.specs.Spans.{plain_text}
 use Rattle.texts.proofs.TextSpanLaws.{plain_out, plain_on, plain_end}
 use Rattle.lists.proofs.Bools.{not_of_false, not_of_true}
 use Rattle.texts.proofs.plain.Goals as goal

@@ -1,10 +1,8 @@
 -- `texts::plain` meets its contract. Assumes nothing.
 use Prim.Native.Nat.{◌-◌}
-use mathlib.Core.Path.{◌≡◌, refl, sym, ◌∙◌}
-use native.Mathlib.Omega.{arith}
+use mathlib.Core.Path.{◌≡◌}
 use lib.ListN.{length, drop}
 use Rattle.texts.specs.Spans.{plain_text}
-use Rattle.texts.proofs.TextSpanLaws.{plain_out, plain_on, plain_end}
 use Rattle.texts.proofs.plain.Given as goal
 
 abbrev pub invariant-loop-i : goal.invariant-loop-i

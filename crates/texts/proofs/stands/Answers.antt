@@ -1,7 +1,6 @@
 -- `texts::stands` meets its contract. Assumes nothing.
 use mathlib.Core.Path.{sym, ◌∙◌}
 use Rattle.texts.proofs.TextSpanLaws.{ok_empty, ok_outside, ok_inside}
-use borrow.Author.Rules.{rules}
 use Rattle.texts.proofs.stands.Goals as goal
 
 pub returns-then-size-eq0 : goal.returns-then-size-eq0

@@ -1,10 +1,8 @@
 -- `texts::texts_fine` meets its contract. Assumes nothing.
 use mathlib.Core.Path.{sym, ◌∙◌}
-use borrow.Author.Tests.{not-true, not-false}
 use Rattle.format.specs.Table.{text_ok}
 use Rattle.format.proofs.PlaceLaws.{text_small}
 use Rattle.texts.proofs.TextSpanLaws.{first_out, second_out, third_is}
-use borrow.Author.Rules.{rules}
 use Rattle.texts.proofs.texts_fine.Goals as goal
 
 pub named-requires : goal.named-requires

@@ -1,6 +1,5 @@
 -- `elements::places::entry_at` meets its contract. Assumes nothing.
 use Rattle.elements.proofs.PlaceTable.{entry_place}
-use borrow.Author.Rules.{rules}
 use Rattle.elements.proofs.places.entry_at.Goals as goal
 
 pub returns-then-row-lt33 : goal.returns-then-row-lt33

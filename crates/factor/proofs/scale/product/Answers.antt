@@ -1,6 +1,5 @@
 -- `factor::scale::product` meets its contract. Assumes nothing.
 use Rattle.factor.proofs.QuotientLaws.{lowered_held, product_held, product_read}
-use borrow.Author.Rules.{rules}
 use Rattle.factor.proofs.scale.product.Goals as goal
 
 pub overflow_sub-result : goal.overflow_sub-result

@@ -6,7 +6,6 @@ use lib.Ieee.{binary64, div, of_int}
 use mir.Facts.{to_z-of_z}
 use Rattle.format.proofs.HalfLaws.{exact_int}
 use Rattle.factor.proofs.QuotientLaws.{nought_is, power_is, exact_power, quotient_high, quotient_is}
-use borrow.Author.Rules.{rules}
 use Rattle.factor.proofs.scale.quotient.Goals as goal
 
 pub returns-then-decimals-gt-MOST_DECIMALS : goal.returns-then-decimals-gt-MOST_DECIMALS

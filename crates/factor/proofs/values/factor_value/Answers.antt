@@ -1,6 +1,5 @@
 -- `factor::values::factor_value` meets its contract. Assumes nothing.
 use Rattle.factor.proofs.ValueLaws.{factor_of_lem}
-use borrow.Author.Rules.{rules}
 use Rattle.factor.proofs.values.factor_value.Goals as goal
 
 pub returns : goal.returns

@@ -1,6 +1,5 @@
 -- `factor::values::greatest_value` meets its contract. Assumes nothing.
 use Rattle.factor.proofs.ValueLaws.{number_of}
-use borrow.Author.Rules.{rules}
 use Rattle.factor.proofs.values.greatest_value.Goals as goal
 
 pub returns : goal.returns

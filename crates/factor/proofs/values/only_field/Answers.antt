@@ -1,6 +1,5 @@
 -- `factor::values::only_field` meets its contract. Assumes nothing.
 use Rattle.factor.proofs.ValueLaws.{not_only, only_is}
-use borrow.Author.Rules.{rules}
 use Rattle.factor.proofs.values.only_field.Goals as goal
 
 pub returns-then-second : goal.returns-then-second

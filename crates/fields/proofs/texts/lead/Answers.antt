@@ -1,6 +1,5 @@
 -- `fields::texts::lead` meets its contract. Assumes nothing.
 use Rattle.fields.proofs.TrimLaws.{leads}
-use borrow.Author.Rules.{rules}
 use Rattle.fields.proofs.texts.lead.Goals as goal
 
 pub returns : goal.returns

@@ -1,11 +1,6 @@
 -- `fields::texts::trimmed` meets its contract. Assumes nothing.
-use Prim.Native.Nat.{◌-◌, ◌≤◌}
-use mathlib.Core.Path.{◌≡◌, sym, ◌∙◌}
+use mathlib.Core.Path.{sym, ◌∙◌}
 use native.Mathlib.Omega.{arith}
-use borrow.Author.Rules.{rules}
-use borrow.Author.Tests.{not-true, not-false}
-use lib.ListN.{length, take, drop}
-use Rattle.format.specs.Bytes.{trim, trim_end}
 use Rattle.format.proofs.TextLaws.{part_gap, part_ink}
 use Rattle.fields.proofs.TrimLaws.{trim_from, trims, trims_none}
 use Rattle.fields.proofs.texts.trimmed.Goals as goal

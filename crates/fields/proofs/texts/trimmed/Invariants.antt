@@ -1,13 +1,8 @@
 -- `fields::texts::trimmed` meets its contract. Assumes nothing.
 use Prim.Native.Nat.{◌-◌, ◌≤◌}
-use mathlib.Core.Path.{◌≡◌, sym, ◌∙◌}
-use native.Mathlib.Omega.{arith}
-use borrow.Author.Rules.{rules}
-use borrow.Author.Tests.{not-true, not-false}
+use mathlib.Core.Path.{◌≡◌}
 use lib.ListN.{length, take, drop}
 use Rattle.format.specs.Bytes.{trim, trim_end}
-use Rattle.format.proofs.TextLaws.{part_gap, part_ink}
-use Rattle.fields.proofs.TrimLaws.{trim_from, trims, trims_none}
 use Rattle.fields.proofs.texts.trimmed.Given as goal
 
 abbrev pub invariant-loop-to : goal.invariant-loop-to

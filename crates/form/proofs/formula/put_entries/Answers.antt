@@ -1,11 +1,8 @@
 -- `form::formula::put_entries` meets its contract. Assumes nothing.
-use Prim.Native.Nat.{◌-◌, ◌≤◌}
-use mathlib.Core.Path.{◌≡◌, refl}
+use mathlib.Core.Path.{refl}
 use native.Mathlib.Omega.{arith}
-use lib.ListN.{length}
-use borrow.Author.Rules.{rules}
 use Rattle.printing.proofs.PrintLaws.{rest_all}
-use Rattle.form.proofs.EntryLaws.{EntriesRest, entries_on_lem, entries_end}
+use Rattle.form.proofs.EntryLaws.{entries_on_lem, entries_end}
 use Rattle.form.proofs.formula.put_entries.Goals as goal
 
 pub bounds-keys-0 : goal.bounds-keys-0

@@ -1,11 +1,8 @@
 -- `form::formula::put_entries` meets its contract. Assumes nothing.
 use Prim.Native.Nat.{◌-◌, ◌≤◌}
-use mathlib.Core.Path.{◌≡◌, refl}
-use native.Mathlib.Omega.{arith}
+use mathlib.Core.Path.{◌≡◌}
 use lib.ListN.{length}
-use borrow.Author.Rules.{rules}
-use Rattle.printing.proofs.PrintLaws.{rest_all}
-use Rattle.form.proofs.EntryLaws.{EntriesRest, entries_on_lem, entries_end}
+use Rattle.form.proofs.EntryLaws.{EntriesRest}
 use Rattle.form.proofs.formula.put_entries.Given as goal
 
 abbrev pub invariant-loop-i : goal.invariant-loop-i

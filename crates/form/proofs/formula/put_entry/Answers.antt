@@ -1,6 +1,5 @@
 -- `form::formula::put_entry` meets its contract. Assumes nothing.
 use Rattle.form.proofs.EntryLaws.{entry_one, entry_more}
-use borrow.Author.Rules.{rules}
 use Rattle.form.proofs.formula.put_entry.Goals as goal
 
 pub returns-then-count-eq1 : goal.returns-then-count-eq1

@@ -1,7 +1,6 @@
 -- `form::formula::put_formula` meets its contract. Assumes nothing.
 use Rattle.format.specs.Bytes.{bytes}
 use Rattle.form.proofs.FragmentLaws.{formula_laid}
-use borrow.Author.Rules.{rules}
 use Rattle.form.proofs.formula.put_formula.Goals as goal
 
 pub returns : goal.returns

@@ -1,6 +1,5 @@
 -- `form::formula::put_next` meets its contract. Assumes nothing.
 use Rattle.printing.proofs.PrintLaws.{laid_then}
-use borrow.Author.Rules.{rules}
 use Rattle.form.proofs.formula.put_next.Goals as goal
 
 pub returns : goal.returns

@@ -1,7 +1,6 @@
 -- `form::formula::put_parted` meets its contract. Assumes nothing.
 use Rattle.printing.proofs.PrintLaws.{laid_as}
 use Rattle.form.proofs.EntryLaws.{parted_same, parted_other}
-use borrow.Author.Rules.{rules}
 use Rattle.form.proofs.formula.put_parted.Goals as goal
 
 pub returns-then-before-group : goal.returns-then-before-group

@@ -1,15 +1,10 @@
 -- `form::listing::put_atoms` meets its contract. Assumes nothing.
 use Prim.Native.Nat.{◌+◌, ◌-◌, ◌≤◌}
-use mathlib.Core.Path.{◌≡◌, refl}
-use native.Mathlib.Omega.{arith}
+use mathlib.Core.Path.{◌≡◌}
 use lib.ListN.{length, drop}
-use borrow.Author.Rules.{rules}
 use Rattle.format.specs.Table.{decode}
 use Rattle.format.specs.Writing.{print_atoms}
 use Rattle.printing.specs.Printing.{Rests}
-use Rattle.printing.proofs.PrintLaws.{rest_all, rest_on, rest_none}
-use Rattle.rowform.proofs.PlaceLaws.{records_many}
-use Rattle.form.proofs.ListingLaws.{atoms_on, atoms_end}
 use Rattle.form.proofs.listing.put_atoms.Given as goal
 
 abbrev pub invariant-loop-i : goal.invariant-loop-i

@@ -3,7 +3,6 @@ use Rattle.format.specs.Bytes.{bytes}
 use Rattle.format.specs.Writing.{valued, print_record}
 use Rattle.rowform.specs.declared.Listed.TheVariants.{Bond, Charge, Radical, Centre, Pair}
 use Rattle.form.proofs.ListingLaws.{label_as}
-use borrow.Author.Rules.{rules}
 use Rattle.form.proofs.listing.put_label.Goals as goal
 
 pub returns-in-Bond : goal.returns-in-Bond

@@ -1,7 +1,6 @@
 -- `form::listing::put_list` meets its contract. Assumes nothing.
 use Rattle.rowform.specs.Lines.{list_of}
 use Rattle.form.proofs.ListingLaws.{list_none, list_some}
-use borrow.Author.Rules.{rules}
 use Rattle.form.proofs.listing.put_list.Goals as goal
 
 pub returns-then-count-eq0 : goal.returns-then-count-eq0

@@ -1,6 +1,5 @@
 -- `form::listing::put_lists` meets its contract. Assumes nothing.
 use Rattle.form.proofs.ListingLaws.{lists_laid}
-use borrow.Author.Rules.{rules}
 use Rattle.form.proofs.listing.put_lists.Goals as goal
 
 pub returns : goal.returns

@@ -1,17 +1,9 @@
 -- `form::listing::put_rows` meets its contract. Assumes nothing.
-use Prim.Native.Nat.{◌-◌, ◌≤◌}
-use mathlib.Core.Path.{◌≡◌, refl}
-use mathlib.Core.Bool.{true}
+use mathlib.Core.Path.{refl}
 use native.Mathlib.Omega.{arith}
-use lib.ListN.{length, drop}
-use Rattle.format.specs.Structure.{rows_of}
-use Rattle.format.specs.Table.{decode}
-use Rattle.printing.specs.Printing.{Rests}
 use Rattle.rowform.specs.Lines.{list_of}
-use Rattle.form.specs.Listing.{groups_fit, rows_text}
 use Rattle.printing.proofs.PrintLaws.{rest_all}
 use Rattle.form.proofs.ListingLaws.{rows_on, rows_end}
-use borrow.Author.Rules.{rules}
 use Rattle.form.proofs.listing.put_rows.Goals as goal
 
 pub loop-i-init : goal.loop-i-init

@@ -4,7 +4,6 @@ use mathlib.Core.Path.{sym, ◌∙◌}
 use Rattle.rowform.specs.declared.Listed.TheVariants.{Bond, Charge, Radical, Centre, Pair}
 use Rattle.rowform.proofs.PlaceLaws.{bonds_many, charges_many, radicals_many, centres_many, pairs_many}
 use Rattle.form.proofs.ListingLaws.{count_as}
-use borrow.Author.Rules.{rules}
 use Rattle.form.proofs.listing.row_count.Goals as goal
 
 pub returns-in-Bond : goal.returns-in-Bond

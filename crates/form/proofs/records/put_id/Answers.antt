@@ -2,7 +2,6 @@
 use Rattle.format.specs.Bytes.{bytes}
 use Rattle.printing.proofs.PrintLaws.{laid_none, laid_as}
 use Rattle.form.proofs.RecordLaws.{id_none, id_laid}
-use borrow.Author.Rules.{rules}
 use Rattle.form.proofs.records.put_id.Goals as goal
 
 pub returns-then-id-eq0 : goal.returns-then-id-eq0

@@ -1,6 +1,5 @@
 -- `form::records::put_record` meets its contract. Assumes nothing.
 use Rattle.form.proofs.RecordLaws.{record_bare, record_full}
-use borrow.Author.Rules.{rules}
 use Rattle.form.proofs.records.put_record.Goals as goal
 
 pub returns-then-value-eq0 : goal.returns-then-value-eq0

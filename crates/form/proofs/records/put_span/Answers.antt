@@ -3,7 +3,6 @@ use Prim.Native.Nat.{◌+◌, ◌-◌}
 use native.Mathlib.Omega.{arith}
 use Rattle.format.proofs.PlaceLaws.{text_small}
 use Rattle.form.proofs.RecordLaws.{span_laid}
-use borrow.Author.Rules.{rules}
 use Rattle.form.proofs.records.put_span.Goals as goal
 
 pub overflow_add-place : goal.overflow_add-place

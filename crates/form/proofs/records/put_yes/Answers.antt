@@ -3,7 +3,6 @@ use Rattle.format.specs.Bytes.{bytes}
 use Rattle.format.specs.Writing.{valued, print_record}
 use Rattle.printing.proofs.PrintLaws.{laid_none, laid_as}
 use Rattle.form.proofs.RecordLaws.{yes_some, yes_none}
-use borrow.Author.Rules.{rules}
 use Rattle.form.proofs.records.put_yes.Goals as goal
 
 pub returns-then-flag-eq1 : goal.returns-then-flag-eq1

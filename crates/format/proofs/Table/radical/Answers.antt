@@ -2,7 +2,6 @@ use mathlib.Core.Path.{sym}
 use Rattle.format.specs.Table.{row_place, base, width}
 use Rattle.format.specs.Structure.{most}
 use Rattle.format.proofs.Places.{place_one, place_out}
-use borrow.Author.Rules.{rules}
 use Rattle.format.proofs.Table.radical.Goals as goal
 
 pub returns-then-index-lt-RADICALS : goal.returns-then-index-lt-RADICALS

@@ -1,7 +1,6 @@
 use mathlib.Core.Path.{sym}
 use Rattle.format.specs.Table.{text_place}
 use Rattle.format.proofs.Places.{place_in, place_out}
-use borrow.Author.Rules.{rules}
 use Rattle.format.proofs.Table.text.Goals as goal
 
 pub returns-then-index-lt-TEXTS : goal.returns-then-index-lt-TEXTS

@@ -1,12 +1,8 @@
 -- `formula::entry::count_at` meets its contract. Assumes nothing.
-use Prim.Native.Nat.{◌-◌}
 use mathlib.Core.Path.{sym, ◌∙◌}
 use native.Mathlib.Omega.{arith}
-use borrow.Author.Rules.{rules}
-use borrow.Author.Tests.{not-false}
-use lib.ListN.{length}
 use Rattle.format.proofs.ByteLaws.{digit_bounds}
-use Rattle.formula.proofs.EntryLaws.{Counting, count_none, count_starts, count_short, count_more, count_ends}
+use Rattle.formula.proofs.EntryLaws.{count_none, count_starts, count_short, count_more, count_ends}
 use Rattle.formula.proofs.entry.count_at.Goals as goal
 
 pub returns-then-size-at : goal.returns-then-size-at

@@ -1,9 +1,7 @@
 -- `formula::entry::letters_at` meets its contract. Assumes nothing.
 use mathlib.Core.Path.{sym, ◌∙◌}
 use native.Mathlib.Omega.{arith}
-use borrow.Author.Tests.{not-false}
 use Rattle.formula.proofs.EntryLaws.{letters_one, letters_two}
-use borrow.Author.Rules.{rules}
 use Rattle.formula.proofs.entry.letters_at.Goals as goal
 
 pub returns-then-is_lower : goal.returns-then-is_lower

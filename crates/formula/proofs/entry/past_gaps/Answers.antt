@@ -1,10 +1,5 @@
 -- `formula::entry::past_gaps` meets its contract. Assumes nothing.
-use Prim.Native.Nat.{◌-◌}
 use mathlib.Core.Path.{sym, ◌∙◌}
-use borrow.Author.Rules.{rules}
-use borrow.Author.Tests.{not-false}
-use lib.ListN.{length}
-use Rattle.formula.specs.Entries.{PastGaps}
 use Rattle.formula.proofs.EntryLaws.{gaps_none, gaps_more}
 use Rattle.formula.proofs.entry.past_gaps.Goals as goal
 

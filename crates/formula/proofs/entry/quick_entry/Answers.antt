@@ -1,6 +1,5 @@
 -- `formula::entry::quick_entry` meets its contract. Assumes nothing.
 use Rattle.formula.proofs.EntryLaws.{letters_told, count_told, entry_is}
-use borrow.Author.Rules.{rules}
 use Rattle.formula.proofs.entry.quick_entry.Goals as goal
 
 pub returns : goal.returns

@@ -1,9 +1,7 @@
 -- `groups::marks::clear` meets its contract. Assumes nothing.
-use Prim.Native.Nat.{ℕ, ◌-◌, ◌≤◌, ◌<◌}
-use mathlib.Core.Path.{◌≡◌, refl}
+use mathlib.Core.Path.{refl}
 use native.Mathlib.Omega.{arith}
-use borrow.Author.Rules.{rules}
-use lib.ListN.{length, length-set, get_or}
+use lib.ListN.{length-set}
 use Rattle.groups.proofs.MarkLaws.{clear_more, clear_all}
 use Rattle.groups.proofs.marks.clear.Goals as goal
 

@@ -3,7 +3,6 @@ use mathlib.Core.Path.{refl, sym}
 use mathlib.Core.Bool.{true}
 use Rattle.lists.proofs.Bools.{torn}
 use Rattle.groups.proofs.MarkLaws.{several, one}
-use borrow.Author.Rules.{rules}
 use Rattle.groups.proofs.marks.is_one_group.Goals as goal
 
 pub returns-then-table-lt-SIZE : goal.returns-then-table-lt-SIZE

@@ -4,7 +4,6 @@ use native.Mathlib.Omega.{arith}
 use lib.ListN.{get_or}
 use lib.IntN.{pos}
 use Rattle.groups.proofs.MarkLaws.{kind_low, kind_fits, kind_weak, second_low, second_fits, second_some, second_beyond, second_in, ones_new, ones_again}
-use borrow.Author.Rules.{rules}
 use Rattle.groups.proofs.marks.mark_bond.Goals as goal
 
 pub returns-then-number-lt1 : goal.returns-then-number-lt1

@@ -1,11 +1,9 @@
 -- `groups::marks::mark_bonds` meets its contract. Assumes nothing.
-use Prim.Native.Nat.{◌+◌, ◌-◌, ◌*◌, ◌≤◌}
-use mathlib.Core.Path.{◌≡◌, refl, ap, ◌∙◌}
+use Prim.Native.Nat.{◌-◌, ◌*◌}
+use mathlib.Core.Path.{refl, ap, ◌∙◌}
 use native.Mathlib.Omega.{arith}
-use borrow.Author.Rules.{rules}
 use lib.ListN.{length, drop}
-use Rattle.groups.specs.Marks.{ones}
-use Rattle.groups.proofs.MarkLaws.{marked_from, marked_long, marks_none, marks_more, marks_all}
+use Rattle.groups.proofs.MarkLaws.{marked_long, marks_none, marks_more, marks_all}
 use Rattle.groups.proofs.marks.mark_bonds.Goals as goal
 
 pub loop-i-init : goal.loop-i-init

@@ -1,6 +1,5 @@
 -- `groups::pointers::join` meets its contract. Assumes nothing.
 use Rattle.groups.proofs.PointerLaws.{join_lower, join_higher, join_same}
-use borrow.Author.Rules.{rules}
 use Rattle.groups.proofs.pointers.join.Goals as goal
 
 pub shape_of-pointers-then-a-b : goal.shape_of-pointers-then-a-b

@@ -1,7 +1,6 @@
 -- `groups::pointers::join_bond` meets its contract. Assumes nothing.
 use native.Mathlib.Omega.{arith}
 use Rattle.groups.proofs.BondLaws.{none_joins, weak_joins, unnamed_joins, named_joins}
-use borrow.Author.Rules.{rules}
 use Rattle.groups.proofs.pointers.join_bond.Goals as goal
 
 pub returns-then-kind-lt1 : goal.returns-then-kind-lt1

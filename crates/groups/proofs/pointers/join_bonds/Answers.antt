@@ -1,9 +1,6 @@
 -- `groups::pointers::join_bonds` meets its contract. Assumes nothing.
-use Prim.Native.Nat.{◌≤◌}
 use native.Mathlib.Omega.{arith}
-use borrow.Author.Rules.{rules}
-use Rattle.groups.specs.Grouping.{JoinsAll}
-use Rattle.groups.proofs.BondLaws.{bonds_from, joins_none, joins_more, place_within, joins_all}
+use Rattle.groups.proofs.BondLaws.{joins_none, joins_more, place_within, joins_all}
 use Rattle.groups.proofs.pointers.join_bonds.Goals as goal
 
 pub loop-i-init : goal.loop-i-init

@@ -1,9 +1,8 @@
 -- `groups::pointers::lowest_of` meets its contract. Assumes nothing.
 use native.Mathlib.Omega.{arith}
-use borrow.Author.Rules.{rules}
 use mathlib.Core.Path.{refl}
 use lib.ListN.{get_or}
-use Rattle.groups.proofs.PointerLaws.{Following, follow_start, over_low, in_it_still, follow_on, follow_end}
+use Rattle.groups.proofs.PointerLaws.{follow_start, over_low, in_it_still, follow_on, follow_end}
 use Rattle.groups.proofs.pointers.lowest_of.Goals as goal
 
 pub overflow_cast-up : goal.overflow_cast-up

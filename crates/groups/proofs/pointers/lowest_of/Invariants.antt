@@ -1,9 +1,5 @@
 -- `groups::pointers::lowest_of` meets its contract. Assumes nothing.
-use native.Mathlib.Omega.{arith}
-use borrow.Author.Rules.{rules}
-use mathlib.Core.Path.{refl}
-use lib.ListN.{get_or}
-use Rattle.groups.proofs.PointerLaws.{Following, follow_start, over_low, in_it_still, follow_on, follow_end}
+use Rattle.groups.proofs.PointerLaws.{Following}
 use Rattle.groups.proofs.pointers.lowest_of.Given as goal
 
 abbrev pub invariant-loop-up : goal.invariant-loop-up

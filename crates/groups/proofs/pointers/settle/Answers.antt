@@ -1,11 +1,8 @@
 -- `groups::pointers::settle` meets its contract. Assumes nothing.
-use Prim.Native.Nat.{◌-◌, ◌≤◌}
 use mathlib.Core.Path.{refl}
 use native.Mathlib.Omega.{arith}
-use borrow.Author.Rules.{rules}
-use lib.ListN.{length, length-set}
-use Rattle.groups.specs.Pointers.{Pointing}
-use Rattle.groups.proofs.PointerLaws.{Settled, settled_none, up_in, settled_more, settled_low, settled_all}
+use lib.ListN.{length-set}
+use Rattle.groups.proofs.PointerLaws.{settled_none, up_in, settled_more, settled_low, settled_all}
 use Rattle.groups.proofs.pointers.settle.Goals as goal
 
 pub loop-i-init : goal.loop-i-init

@@ -1,11 +1,8 @@
 -- `groups::pointers::settle` meets its contract. Assumes nothing.
 use Prim.Native.Nat.{◌-◌, ◌≤◌}
-use mathlib.Core.Path.{refl}
-use native.Mathlib.Omega.{arith}
-use borrow.Author.Rules.{rules}
-use lib.ListN.{length, length-set}
+use lib.ListN.{length}
 use Rattle.groups.specs.Pointers.{Pointing}
-use Rattle.groups.proofs.PointerLaws.{Settled, settled_none, up_in, settled_more, settled_low, settled_all}
+use Rattle.groups.proofs.PointerLaws.{Settled}
 use Rattle.groups.proofs.pointers.settle.Given as goal
 
 abbrev pub invariant-loop-i : goal.invariant-loop-i

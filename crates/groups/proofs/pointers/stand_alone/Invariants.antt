@@ -1,10 +1,7 @@
 -- `groups::pointers::stand_alone` meets its contract. Assumes nothing.
 use Prim.Native.Nat.{ℕ, ◌-◌, ◌≤◌, ◌<◌}
-use mathlib.Core.Path.{◌≡◌, refl}
-use native.Mathlib.Omega.{arith}
-use borrow.Author.Rules.{rules}
-use lib.ListN.{length, length-set, get_or}
-use Rattle.groups.proofs.PointerLaws.{alone_more, alone_all}
+use mathlib.Core.Path.{◌≡◌}
+use lib.ListN.{length, get_or}
 use Rattle.groups.proofs.pointers.stand_alone.Given as goal
 
 abbrev pub invariant-loop-i : goal.invariant-loop-i

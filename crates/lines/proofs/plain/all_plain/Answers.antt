@@ -1,12 +1,6 @@
 -- `lines::plain::all_plain` meets its contract. Assumes nothing.
-use Prim.Native.Nat.{◌-◌, ◌≤◌}
-use mathlib.Core.Path.{◌≡◌, refl, sym, ◌∙◌}
-use mathlib.Core.Bool.{◌&&◌}
+use mathlib.Core.Path.{refl, sym, ◌∙◌}
 use native.Mathlib.Omega.{arith}
-use lib.ListN.{length, drop}
-use borrow.Author.Rules.{rules}
-use Rattle.lists.specs.Lists.{all}
-use Rattle.format.specs.Bytes.{within}
 use Rattle.lines.proofs.LineLaws.{plain_turn, plain_end}
 use Rattle.lines.proofs.plain.all_plain.Goals as goal
 

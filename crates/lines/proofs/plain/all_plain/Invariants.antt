@@ -1,13 +1,10 @@
 -- `lines::plain::all_plain` meets its contract. Assumes nothing.
 use Prim.Native.Nat.{◌-◌, ◌≤◌}
-use mathlib.Core.Path.{◌≡◌, refl, sym, ◌∙◌}
+use mathlib.Core.Path.{◌≡◌}
 use mathlib.Core.Bool.{◌&&◌}
-use native.Mathlib.Omega.{arith}
 use lib.ListN.{length, drop}
-use borrow.Author.Rules.{rules}
 use Rattle.lists.specs.Lists.{all}
 use Rattle.format.specs.Bytes.{within}
-use Rattle.lines.proofs.LineLaws.{plain_turn, plain_end}
 use Rattle.lines.proofs.plain.all_plain.Given as goal
 
 abbrev pub invariant-loop-i : goal.invariant-loop-i

@@ -1,7 +1,6 @@
 -- `lines::plain::is_plain` meets its contract. Assumes nothing.
 use native.Mathlib.Omega.{arith}
 use Rattle.lines.proofs.LineLaws.{plain_test}
-use borrow.Author.Rules.{rules}
 use Rattle.lines.proofs.plain.is_plain.Goals as goal
 
 pub returns : goal.returns

@@ -1,12 +1,7 @@
 -- `lines::plain::plain_to` meets its contract. Assumes nothing.
 use Prim.Native.Nat.{◌-◌}
-use mathlib.Core.Path.{refl, sym, ◌∙◌}
-use native.Mathlib.Omega.{arith}
 use lib.ListN.{length}
-use borrow.Author.Rules.{rules}
-use borrow.Author.Tests.{not-false}
 use Rattle.lines.specs.Looks.{Looking}
-use Rattle.lines.proofs.LineLaws.{looks_far}
 use Rattle.lines.proofs.plain.plain_to.Given as goal
 
 abbrev pub invariant-loop-i : goal.invariant-loop-i

@@ -1,8 +1,6 @@
 -- `lines::plain::plain_too` meets its contract. Assumes nothing.
 use mathlib.Core.Path.{sym, ◌∙◌}
-use borrow.Author.Tests.{not-true, not-false}
 use Rattle.lines.proofs.LineLaws.{plain_out, plain_in}
-use borrow.Author.Rules.{rules}
 use Rattle.lines.proofs.plain.plain_too.Goals as goal
 
 pub returns-then-not-is_plain : goal.returns-then-not-is_plain

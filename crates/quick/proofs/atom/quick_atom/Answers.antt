@@ -1,11 +1,9 @@
 -- `quick::atom::quick_atom` meets its contract. Assumes nothing.
 use mathlib.Core.Path.{sym, ◌∙◌}
 use native.Mathlib.Omega.{arith}
-use borrow.Author.Tests.{not-false}
 use Rattle.quick.specs.Pieces.{NumberIs}
 use Rattle.quick.proofs.PieceLaws.{number_told, tail_told}
 use Rattle.quick.proofs.RowLaws.{atom_one, atom_two}
-use borrow.Author.Rules.{rules}
 use Rattle.quick.proofs.atom.quick_atom.Goals as goal
 
 pub bounds-block-from : goal.bounds-block-from

@@ -1,7 +1,6 @@
 -- `quick::bond::kind_of` meets its contract. Assumes nothing.
 use mathlib.Core.Path.{refl}
 use Rattle.quick.proofs.PieceLaws.{kind_is}
-use borrow.Author.Rules.{rules}
 use Rattle.quick.proofs.bond.kind_of.Goals as goal
 
 pub returns-then-letter-lt65 : goal.returns-then-letter-lt65

@@ -3,7 +3,6 @@ use native.Mathlib.Omega.{arith}
 use Rattle.quick.specs.Pieces.{NumberIs}
 use Rattle.quick.proofs.PieceLaws.{number_told, end_told}
 use Rattle.quick.proofs.RowLaws.{bond_row}
-use borrow.Author.Rules.{rules}
 use Rattle.quick.proofs.bond.quick_bond.Goals as goal
 
 pub number_at-requires-2 : goal.number_at-requires-2

@@ -1,6 +1,5 @@
 -- `quick::parts::behind_minus` meets its contract. Assumes nothing.
 use Rattle.quick.proofs.SignedLaws.{minus_there, minus_absent}
-use borrow.Author.Rules.{rules}
 use Rattle.quick.proofs.parts.behind_minus.Goals as goal
 
 pub returns-then-block-at-eq45 : goal.returns-then-block-at-eq45

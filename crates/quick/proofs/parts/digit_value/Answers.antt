@@ -2,7 +2,6 @@
 use mathlib.Core.Path.{refl}
 use native.Mathlib.Omega.{arith}
 use Rattle.format.proofs.ByteLaws.{digit_bounds}
-use borrow.Author.Rules.{rules}
 use Rattle.quick.proofs.parts.digit_value.Goals as goal
 
 pub overflow_sub-result : goal.overflow_sub-result

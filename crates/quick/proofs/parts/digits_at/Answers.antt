@@ -1,10 +1,7 @@
 -- `quick::parts::digits_at` meets its contract. Assumes nothing.
-use Prim.Native.Nat.{◌+◌, ◌-◌}
-use mathlib.Core.Path.{◌≡◌, refl, sym, ◌∙◌}
+use mathlib.Core.Path.{refl, sym, ◌∙◌}
 use native.Mathlib.Omega.{arith}
-use borrow.Author.Rules.{rules}
-use borrow.Author.Tests.{not-false}
-use Rattle.quick.proofs.SignedLaws.{SoFar, so_far_none, so_far_room, so_far_more, digits_are}
+use Rattle.quick.proofs.SignedLaws.{so_far_none, so_far_room, so_far_more, digits_are}
 use Rattle.quick.proofs.parts.digits_at.Goals as goal
 
 pub loop-to-init : goal.loop-to-init

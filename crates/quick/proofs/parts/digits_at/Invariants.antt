@@ -1,10 +1,7 @@
 -- `quick::parts::digits_at` meets its contract. Assumes nothing.
 use Prim.Native.Nat.{◌+◌, ◌-◌}
-use mathlib.Core.Path.{◌≡◌, refl, sym, ◌∙◌}
-use native.Mathlib.Omega.{arith}
-use borrow.Author.Rules.{rules}
-use borrow.Author.Tests.{not-false}
-use Rattle.quick.proofs.SignedLaws.{SoFar, so_far_none, so_far_room, so_far_more, digits_are}
+use mathlib.Core.Path.{◌≡◌}
+use Rattle.quick.proofs.SignedLaws.{SoFar}
 use Rattle.quick.proofs.parts.digits_at.Given as goal
 
 abbrev pub invariant-loop-to : goal.invariant-loop-to

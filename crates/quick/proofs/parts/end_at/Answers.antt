@@ -1,6 +1,5 @@
 -- `quick::parts::end_at` meets its contract. Assumes nothing.
 use Rattle.quick.proofs.PieceLaws.{end_feed, end_return}
-use borrow.Author.Rules.{rules}
 use Rattle.quick.proofs.parts.end_at.Goals as goal
 
 pub returns-then-byte-eq10 : goal.returns-then-byte-eq10

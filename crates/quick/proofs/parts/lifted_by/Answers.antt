@@ -1,6 +1,5 @@
 -- `quick::parts::lifted_by` meets its contract. Assumes nothing.
 use Rattle.quick.proofs.SignedLaws.{lifted_minus, lifted_plus}
-use borrow.Author.Rules.{rules}
 use Rattle.quick.proofs.parts.lifted_by.Goals as goal
 
 pub returns-then-negative : goal.returns-then-negative

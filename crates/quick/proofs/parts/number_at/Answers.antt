@@ -3,11 +3,9 @@ use mathlib.Core.Path.{◌≡◌, sym, ◌∙◌}
 use mathlib.Core.Bool.{true}
 use Prim.Native.Nat.{◌+◌}
 use native.Mathlib.Omega.{arith}
-use borrow.Author.Tests.{not-false}
 use lib.ListN.{get_or}
 use Rattle.format.specs.Rows.{digit}
 use Rattle.quick.proofs.PieceLaws.{sums, number_one, number_two, number_three}
-use borrow.Author.Rules.{rules}
 use Rattle.quick.proofs.parts.number_at.Goals as goal
 
 pub digit_value-units-requires : goal.digit_value-units-requires

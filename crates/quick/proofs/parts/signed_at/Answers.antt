@@ -1,7 +1,6 @@
 -- `quick::parts::signed_at` meets its contract. Assumes nothing.
 use native.Mathlib.Omega.{arith}
 use Rattle.quick.proofs.SignedLaws.{behind_near, signed_is}
-use borrow.Author.Rules.{rules}
 use Rattle.quick.proofs.parts.signed_at.Goals as goal
 
 pub digits_at-digits-requires : goal.digits_at-digits-requires

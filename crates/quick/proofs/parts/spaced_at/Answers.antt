@@ -2,7 +2,6 @@
 use native.Mathlib.Omega.{arith}
 use Rattle.quick.specs.Pieces.{SignedIs}
 use Rattle.quick.proofs.SignedLaws.{signed_told, spaced_is}
-use borrow.Author.Rules.{rules}
 use Rattle.quick.proofs.parts.spaced_at.Goals as goal
 
 pub bounds-block-to : goal.bounds-block-to

@@ -1,8 +1,6 @@
 -- `quick::parts::tail_at` meets its contract. Assumes nothing.
 use mathlib.Core.Path.{sym, ◌∙◌}
-use borrow.Author.Tests.{not-false}
 use Rattle.quick.proofs.PieceLaws.{end_told, tail_bare, tail_digit}
-use borrow.Author.Rules.{rules}
 use Rattle.quick.proofs.parts.tail_at.Goals as goal
 
 pub digit_value-requires : goal.digit_value-requires

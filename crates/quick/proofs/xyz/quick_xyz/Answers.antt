@@ -1,13 +1,11 @@
 -- `quick::xyz::quick_xyz` meets its contract. Assumes nothing.
-use Prim.Native.Nat.{ℕ, ◌+◌, ◌≤◌}
-use mathlib.Core.List.{List}
+use Prim.Native.Nat.{◌+◌, ◌≤◌}
 use native.Mathlib.Omega.{arith}
 use lib.ListN.{length}
 use Rattle.quick.specs.Pieces.{NumberIs, SignedIs, SpacedIs}
 use Rattle.quick.proofs.PieceLaws.{number_told, end_told}
 use Rattle.quick.proofs.SignedLaws.{signed_told, spaced_told, spaced_near}
 use Rattle.quick.proofs.RowLaws.{xyz_row}
-use borrow.Author.Rules.{rules}
 use Rattle.quick.proofs.xyz.quick_xyz.Goals as goal
 
 pub spaced_at-requires : goal.spaced_at-requires

@@ -1,7 +1,6 @@
 -- `rowform::rows::letter_of` meets its contract. Assumes nothing.
 use mathlib.Core.Path.{sym}
 use Rattle.cells.proofs.SignLaws.{beyond}
-use borrow.Author.Rules.{rules}
 use Rattle.rowform.proofs.rows.letter_of.Goals as goal
 
 pub returns : goal.returns

@@ -3,7 +3,6 @@ use native.Mathlib.Omega.{arith}
 use Rattle.format.specs.Labels.{Bonds}
 use Rattle.format.proofs.PlaceLaws.{row_small_lem}
 use Rattle.rowform.proofs.RowLaws.{bond_laid}
-use borrow.Author.Rules.{rules}
 use Rattle.rowform.proofs.rows.put_bond.Goals as goal
 
 pub overflow_add-place : goal.overflow_add-place

@@ -1,6 +1,5 @@
 -- `rowform::rows::put_charge` meets its contract. Assumes nothing.
 use Rattle.rowform.proofs.RowLaws.{charge_laid}
-use borrow.Author.Rules.{rules}
 use Rattle.rowform.proofs.rows.put_charge.Goals as goal
 
 pub returns : goal.returns

@@ -1,6 +1,5 @@
 -- `rowform::rows::put_mark` meets its contract. Assumes nothing.
 use Rattle.rowform.proofs.LineLaws.{mark_alone, mark_grouped}
-use borrow.Author.Rules.{rules}
 use Rattle.rowform.proofs.rows.put_mark.Goals as goal
 
 pub returns-then-group-eq0 : goal.returns-then-group-eq0

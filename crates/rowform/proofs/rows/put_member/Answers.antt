@@ -1,7 +1,6 @@
 -- `rowform::rows::put_member` meets its contract. Assumes nothing.
 use Rattle.printing.proofs.PrintLaws.{laid_none, laid_as}
 use Rattle.rowform.proofs.RowLaws.{member_is, member_none}
-use borrow.Author.Rules.{rules}
 use Rattle.rowform.proofs.rows.put_member.Goals as goal
 
 pub returns-then-cell-j : goal.returns-then-cell-j

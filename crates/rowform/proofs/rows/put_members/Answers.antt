@@ -1,15 +1,10 @@
 -- `rowform::rows::put_members` meets its contract. Assumes nothing.
-use Prim.Native.Nat.{◌+◌, ◌-◌, ◌≤◌}
-use mathlib.Core.Path.{◌≡◌, refl}
+use mathlib.Core.Path.{refl}
 use native.Mathlib.Omega.{arith}
-use lib.ListN.{length, drop}
-use borrow.Author.Rules.{rules}
-use Rattle.format.specs.Table.{atom_records}
-use Rattle.printing.specs.Printing.{Rests}
 use Rattle.printing.proofs.PrintLaws.{rest_all, rest_on, rest_none}
 use Rattle.format.proofs.PlaceLaws.{atom_small}
 use Rattle.rowform.proofs.PlaceLaws.{records_many}
-use Rattle.rowform.proofs.RowLaws.{members_text, members_on, members_end}
+use Rattle.rowform.proofs.RowLaws.{members_on, members_end}
 use Rattle.rowform.proofs.rows.put_members.Goals as goal
 
 pub loop-i-init : goal.loop-i-init

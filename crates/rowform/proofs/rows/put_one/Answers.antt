@@ -1,6 +1,5 @@
 -- `rowform::rows::put_one` meets its contract. Assumes nothing.
 use Rattle.rowform.proofs.LineLaws.{one_laid}
-use borrow.Author.Rules.{rules}
 use Rattle.rowform.proofs.rows.put_one.Goals as goal
 
 pub returns : goal.returns

@@ -1,6 +1,5 @@
 -- `rowform::rows::put_radical` meets its contract. Assumes nothing.
 use Rattle.rowform.proofs.RowLaws.{radical_laid}
-use borrow.Author.Rules.{rules}
 use Rattle.rowform.proofs.rows.put_radical.Goals as goal
 
 pub returns : goal.returns

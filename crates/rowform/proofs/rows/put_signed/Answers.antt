@@ -3,7 +3,6 @@ use lib.ListN.{get_or}
 use lib.IntN.{pos}
 use Rattle.printing.proofs.PrintLaws.{laid_then, laid_as}
 use Rattle.rowform.proofs.LineLaws.{minus_is, plus_is}
-use borrow.Author.Rules.{rules}
 use Rattle.rowform.proofs.rows.put_signed.Goals as goal
 
 pub returns-then-is_negative : goal.returns-then-is_negative

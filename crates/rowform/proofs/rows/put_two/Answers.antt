@@ -1,6 +1,5 @@
 -- `rowform::rows::put_two` meets its contract. Assumes nothing.
 use Rattle.rowform.proofs.LineLaws.{two_laid}
-use borrow.Author.Rules.{rules}
 use Rattle.rowform.proofs.rows.put_two.Goals as goal
 
 pub returns : goal.returns

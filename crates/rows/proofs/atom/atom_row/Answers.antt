@@ -1,12 +1,9 @@
 -- `rows::atom::atom_row` meets its contract. Assumes nothing.
-use Prim.Native.Nat.{ℕ}
-use mathlib.Core.List.{List}
 use mathlib.Core.Path.{ap}
 use Rattle.rows.specs.Parts.{AtomIs}
 use Rattle.rows.specs.Answers.{as_answer}
 use Rattle.rows.proofs.PartLaws.{atom_told, atom_none, shows_value, shows_wrong}
 use Rattle.rows.proofs.ShapeLaws.{no_number, no_symbol, no_hydrogens, atom_row_is}
-use borrow.Author.Rules.{rules}
 use Rattle.rows.proofs.atom.atom_row.Goals as goal
 
 pub returns-in_default : goal.returns-in_default

@@ -1,16 +1,12 @@
 -- `rows::bond::bond_row` meets its contract. Assumes nothing.
-use Prim.Native.Nat.{ℕ}
-use mathlib.Core.List.{List}
 use Rattle.rows.specs.Parts.{TwoAre}
 use Rattle.rows.specs.Answers.{as_answer}
 use lib.ListN.{drop}
 use Rattle.format.specs.Bytes.{fields}
 use mathlib.Core.Path.{sym, ap, ◌∙◌}
-use borrow.Author.Tests.{not-true, not-false}
 use Rattle.format.specs.Rows.{row_shape, nothing_more}
 use Rattle.rows.proofs.PartLaws.{two_told, two_none}
 use Rattle.rows.proofs.ShapeLaws.{end_none, end_some, no_atoms, no_letter, no_last, row_is}
-use borrow.Author.Rules.{rules}
 use Rattle.rows.proofs.bond.bond_row.Goals as goal
 
 pub returns-in_default : goal.returns-in_default

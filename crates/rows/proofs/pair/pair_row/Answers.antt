@@ -1,13 +1,10 @@
 -- `rows::pair::pair_row` meets its contract. Assumes nothing.
-use Prim.Native.Nat.{ℕ}
-use mathlib.Core.List.{List}
 use mathlib.Core.Path.{ap}
 use Rattle.rows.specs.Parts.{TwoAre}
 use Rattle.rows.specs.Answers.{as_answer}
 use Rattle.format.specs.Rows.{row_shape, group}
 use Rattle.rows.proofs.PartLaws.{shows_value, shows_wrong, two_told, two_none}
 use Rattle.rows.proofs.ShapeLaws.{no_atoms, no_letter, no_last, row_is}
-use borrow.Author.Rules.{rules}
 use Rattle.rows.proofs.pair.pair_row.Goals as goal
 
 pub returns-in_default : goal.returns-in_default

@@ -1,6 +1,5 @@
 -- `rows::parts::at_end` meets its contract. Assumes nothing.
 use Rattle.rows.proofs.PartLaws.{end_is}
-use borrow.Author.Rules.{rules}
 use Rattle.rows.proofs.parts.at_end.Goals as goal
 
 pub returns : goal.returns

@@ -1,6 +1,5 @@
 -- `rows::parts::atom_at` meets its contract. Assumes nothing.
 use Rattle.rows.proofs.PartLaws.{atom_is, atom_wrong}
-use borrow.Author.Rules.{rules}
 use Rattle.rows.proofs.parts.atom_at.Goals as goal
 
 pub slice_bounds-number-end : goal.slice_bounds-number-end

@@ -1,11 +1,8 @@
 -- `rows::parts::last_group` meets its contract. Assumes nothing.
-use Prim.Native.Nat.{ℕ}
-use mathlib.Core.List.{List}
 use native.Mathlib.Omega.{arith}
 use Rattle.format.specs.Rows.{group}
 use Rattle.rows.specs.Parts.{OneLeft}
 use Rattle.rows.proofs.PartLaws.{one_told, absent_shows, one_shows, more_shows}
-use borrow.Author.Rules.{rules}
 use Rattle.rows.proofs.parts.last_group.Goals as goal
 
 pub slice_bounds-group-count : goal.slice_bounds-group-count

@@ -1,8 +1,6 @@
 -- `rows::parts::only_field` meets its contract. Assumes nothing.
 use mathlib.Core.Path.{sym, ◌∙◌}
-use borrow.Author.Tests.{not-true, not-false}
 use Rattle.rows.proofs.PartLaws.{more_left, one_left}
-use borrow.Author.Rules.{rules}
 use Rattle.rows.proofs.parts.only_field.Goals as goal
 
 pub returns-then-from-to : goal.returns-then-from-to

@@ -1,6 +1,5 @@
 -- `rows::parts::two_atoms` meets its contract. Assumes nothing.
 use Rattle.rows.proofs.PartLaws.{atom_told, atom_none, two_first, two_second, two_are}
-use borrow.Author.Rules.{rules}
 use Rattle.rows.proofs.parts.two_atoms.Goals as goal
 
 pub returns-in_default : goal.returns-in_default

@@ -1,7 +1,6 @@
 -- `rows::xyz::lifted` meets its contract. Assumes nothing.
 use native.Mathlib.Omega.{arith}
 use Rattle.rows.proofs.XyzLaws.{plus_small, minus_small, plus_lifted, minus_lifted}
-use borrow.Author.Rules.{rules}
 use Rattle.rows.proofs.xyz.lifted.Goals as goal
 
 pub overflow_add-result : goal.overflow_add-result

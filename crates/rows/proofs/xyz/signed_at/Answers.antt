@@ -1,6 +1,5 @@
 -- `rows::xyz::signed_at` meets its contract. Assumes nothing.
 use Rattle.rows.proofs.XyzLaws.{signed_small, lifted_shown}
-use borrow.Author.Rules.{rules}
 use Rattle.rows.proofs.xyz.signed_at.Goals as goal
 
 pub lifted-requires : goal.lifted-requires

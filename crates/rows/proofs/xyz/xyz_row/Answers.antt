@@ -1,13 +1,9 @@
 -- `rows::xyz::xyz_row` meets its contract. Assumes nothing.
-use Prim.Native.Nat.{ℕ}
 use mathlib.Core.Path.{sym, ◌∙◌}
-use mathlib.Core.List.{List}
-use borrow.Author.Tests.{not-true, not-false}
 use Rattle.rows.specs.Parts.{AtomIs}
 use Rattle.rows.specs.XyzRows.{LiftedIs}
 use Rattle.rows.proofs.PartLaws.{atom_told, atom_none}
 use Rattle.rows.proofs.XyzLaws.{lifted_told, lifted_none, no_atom_lem, no_x, no_y, no_z, row_long, row_told}
-use borrow.Author.Rules.{rules}
 use Rattle.rows.proofs.xyz.xyz_row.Goals as goal
 
 pub returns-in_default : goal.returns-in_default

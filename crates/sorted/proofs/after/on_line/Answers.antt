@@ -1,7 +1,6 @@
 -- `sorted::after::on_line` meets its contract. Assumes nothing.
 use mathlib.Core.Path.{sym, ap}
 use Rattle.sorted.specs.Keyed.{on_line}
-use borrow.Author.Rules.{rules}
 use Rattle.sorted.proofs.after.on_line.Goals as goal
 
 pub returns-in-Kept : goal.returns-in-Kept

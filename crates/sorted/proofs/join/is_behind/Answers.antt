@@ -1,6 +1,5 @@
 -- `sorted::join::is_behind` meets its contract. Assumes nothing.
 use borrow.Author.Tests.{eq-eqb, ne_eqb}
-use borrow.Author.Rules.{rules}
 use Rattle.sorted.proofs.join.is_behind.Goals as goal
 
 pub returns-then-count-eq0 : goal.returns-then-count-eq0

@@ -2,7 +2,6 @@
 use mathlib.Core.Path.{sym, ◌∙◌}
 use native.Mathlib.Omega.{arith}
 use Rattle.sorted.proofs.JoinLaws.{kept_within, kept_leaves, shows_last}
-use borrow.Author.Rules.{rules}
 use Rattle.sorted.proofs.join.join.Goals as goal
 
 pub returns-then-count-most : goal.returns-then-count-most

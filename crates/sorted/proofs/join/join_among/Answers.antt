@@ -2,9 +2,7 @@
 use mathlib.Core.Path.{refl, sym, ◌∙◌}
 use mathlib.Core.Bool.{true}
 use native.Mathlib.Omega.{arith}
-use borrow.Author.Tests.{not-true, not-false}
 use Rattle.sorted.proofs.JoinLaws.{kept_within, stop_within, same_leaves, kept_leaves, payload_within, shows_met, shows_clash, shows_again, shows_full, shows_new}
-use borrow.Author.Rules.{rules}
 use Rattle.sorted.proofs.join.join_among.Goals as goal
 
 pub returns-then-not-drops : goal.returns-then-not-drops

@@ -1,9 +1,7 @@
 -- `sorted::join::open_gap` meets its contract. Assumes nothing.
-use Prim.Native.Nat.{◌-◌, ◌≤◌}
-use mathlib.Core.Path.{◌≡◌, refl}
+use mathlib.Core.Path.{refl}
 use native.Mathlib.Omega.{arith}
-use lib.ListN.{length, length-set}
-use Rattle.sorted.specs.Keyed.{opened}
+use lib.ListN.{length-set}
 use Rattle.sorted.proofs.GapLaws.{opened_start, opened_turn, opened_whole}
 use Rattle.sorted.proofs.join.open_gap.Goals as goal
 

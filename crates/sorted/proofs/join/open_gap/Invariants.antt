@@ -1,10 +1,8 @@
 -- `sorted::join::open_gap` meets its contract. Assumes nothing.
-use Prim.Native.Nat.{◌-◌, ◌≤◌}
-use mathlib.Core.Path.{◌≡◌, refl}
-use native.Mathlib.Omega.{arith}
-use lib.ListN.{length, length-set}
+use Prim.Native.Nat.{◌≤◌}
+use mathlib.Core.Path.{◌≡◌}
+use lib.ListN.{length}
 use Rattle.sorted.specs.Keyed.{opened}
-use Rattle.sorted.proofs.GapLaws.{opened_start, opened_turn, opened_whole}
 use Rattle.sorted.proofs.join.open_gap.Given as goal
 
 abbrev pub invariant-loop-j : goal.invariant-loop-j

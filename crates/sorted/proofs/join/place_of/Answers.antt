@@ -1,7 +1,5 @@
 -- `sorted::join::place_of` meets its contract. Assumes nothing.
-use Prim.Native.Nat.{◌-◌, ◌≤◌}
 use native.Mathlib.Omega.{arith}
-use Rattle.sorted.specs.Keyed.{KeysAscend, Between}
 use Rattle.sorted.proofs.SearchLaws.{search_starts, search_up, search_down, search_ends}
 use Rattle.sorted.proofs.join.place_of.Goals as goal
 

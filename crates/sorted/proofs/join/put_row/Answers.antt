@@ -2,7 +2,6 @@
 use native.Mathlib.Omega.{arith}
 use lib.ListN.{length-set}
 use Rattle.sorted.proofs.GapLaws.{row_stored}
-use borrow.Author.Rules.{rules}
 use Rattle.sorted.proofs.join.put_row.Goals as goal
 
 pub bounds-region-from-2 : goal.bounds-region-from-2

@@ -1,6 +1,5 @@
 -- `sorted::join::stands_at` meets its contract. Assumes nothing.
 use borrow.Author.Tests.{lt-ltb, le-ltb}
-use borrow.Author.Rules.{rules}
 use Rattle.sorted.proofs.join.stands_at.Goals as goal
 
 pub returns-then-place-count : goal.returns-then-place-count

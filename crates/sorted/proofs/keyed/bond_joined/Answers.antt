@@ -2,10 +2,8 @@
 use mathlib.Core.Path.{refl, sym, ◌∙◌}
 use native.Mathlib.Omega.{arith}
 use lib.ListN.{length}
-use borrow.Author.Tests.{not-true, not-false}
 use Rattle.sorted.proofs.JoinLaws.{same_leaves}
 use Rattle.sorted.proofs.KeyedLaws.{one_fits, two_fits, order_first, order_second, shows_ordered, fits_parts, fits_not}
-use borrow.Author.Rules.{rules}
 use Rattle.sorted.proofs.keyed.bond_joined.Goals as goal
 
 pub returns-then-not-region_fits : goal.returns-then-not-region_fits

@@ -1,10 +1,8 @@
 -- `sorted::keyed::bond_line` meets its contract. Assumes nothing.
 use mathlib.Core.Path.{refl, sym, ◌∙◌}
 use native.Mathlib.Omega.{arith}
-use borrow.Author.Tests.{not-true, not-false}
 use Rattle.sorted.proofs.KeyedLaws.{line_within, refused_within, handed_within, shows_blank, fits_parts, fits_not}
 use Rattle.sorted.proofs.KeyedLines.{bond_torn, bond_small, bond_refused, bond_shows}
-use borrow.Author.Rules.{rules}
 use Rattle.sorted.proofs.keyed.bond_line.Goals as goal
 
 pub returns-then-not-region_fits : goal.returns-then-not-region_fits

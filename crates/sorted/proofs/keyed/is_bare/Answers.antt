@@ -1,6 +1,5 @@
 -- `sorted::keyed::is_bare` meets its contract. Assumes nothing.
 use Rattle.sorted.proofs.KeyedLaws.{bare_is}
-use borrow.Author.Rules.{rules}
 use Rattle.sorted.proofs.keyed.is_bare.Goals as goal
 
 pub returns : goal.returns

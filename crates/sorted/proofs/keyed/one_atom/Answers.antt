@@ -1,11 +1,9 @@
 -- `sorted::keyed::one_atom` meets its contract. Assumes nothing.
 use mathlib.Core.Path.{refl, sym, ◌∙◌}
-use borrow.Author.Tests.{not-true, not-false}
 use Rattle.lists.proofs.PairLaws.{pairs_one}
 use lib.Dec.{eqb}
 use Rattle.sorted.proofs.JoinLaws.{stop_within}
 use Rattle.sorted.proofs.KeyedLaws.{shows_unlisted, shows_joined, one_listed, one_unlisted, one_key, one_fits}
-use borrow.Author.Rules.{rules}
 use Rattle.sorted.proofs.keyed.one_atom.Goals as goal
 
 pub returns-then-not-is_listed : goal.returns-then-not-is_listed

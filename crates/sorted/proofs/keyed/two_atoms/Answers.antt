@@ -1,9 +1,7 @@
 -- `sorted::keyed::two_atoms` meets its contract. Assumes nothing.
 use mathlib.Core.Path.{refl, sym, ◌∙◌}
-use borrow.Author.Tests.{not-true, not-false}
 use Rattle.sorted.proofs.JoinLaws.{stop_within, same_leaves}
 use Rattle.sorted.proofs.KeyedLaws.{shows_unlisted, shows_itself, shows_joined, both_listed, first_unlisted, second_unlisted, pair_equal, pair_apart, lower_first, higher_first, one_fits, two_fits}
-use borrow.Author.Rules.{rules}
 use Rattle.sorted.proofs.keyed.two_atoms.Goals as goal
 
 pub returns-then-not-is_listed : goal.returns-then-not-is_listed

@@ -4,7 +4,6 @@ use native.Mathlib.Omega.{arith}
 use Rattle.format.proofs.PlaceLaws.{atoms_behind}
 use Rattle.soundness.proofs.TestLaws.{stop, pass}
 use Rattle.soundness.proofs.RegionTests.{atoms_is}
-use borrow.Author.Rules.{rules}
 use Rattle.lists.proofs.Bools.{not_of_false, not_of_true}
 use Rattle.soundness.proofs.atoms.atoms_fine.Goals as goal
 

@@ -1,10 +1,6 @@
 -- `soundness::atoms::each_atom_fine` meets its contract. Assumes nothing.
-use Prim.Native.Nat.{◌-◌, ◌≤◌}
-use mathlib.Core.Path.{◌≡◌, refl, sym, ◌∙◌}
+use mathlib.Core.Path.{refl, sym, ◌∙◌}
 use native.Mathlib.Omega.{arith}
-use borrow.Author.Rules.{rules}
-use lib.ListN.{drop}
-use Rattle.lists.specs.Lists.{all, rows_from}
 use Rattle.soundness.specs.Sounding.{atom_fine}
 use Rattle.format.proofs.PlaceLaws.{atom_place_lem, atom_small}
 use Rattle.soundness.proofs.TestLaws.{rows_miss, rows_pass, rows_end}

@@ -1,13 +1,9 @@
 -- `soundness::atoms::each_atom_fine` meets its contract. Assumes nothing.
 use Prim.Native.Nat.{◌-◌, ◌≤◌}
-use mathlib.Core.Path.{◌≡◌, refl, sym, ◌∙◌}
-use native.Mathlib.Omega.{arith}
-use borrow.Author.Rules.{rules}
+use mathlib.Core.Path.{◌≡◌}
 use lib.ListN.{drop}
 use Rattle.lists.specs.Lists.{all, rows_from}
 use Rattle.soundness.specs.Sounding.{atom_fine}
-use Rattle.format.proofs.PlaceLaws.{atom_place_lem, atom_small}
-use Rattle.soundness.proofs.TestLaws.{rows_miss, rows_pass, rows_end}
 use Rattle.soundness.proofs.atoms.each_atom_fine.Given as goal
 
 abbrev pub invariant-loop-i : goal.invariant-loop-i

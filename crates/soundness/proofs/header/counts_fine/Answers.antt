@@ -1,7 +1,6 @@
 -- `soundness::header::counts_fine` meets its contract. Assumes nothing.
 use mathlib.Core.Path.{◌∙◌}
 use Rattle.soundness.proofs.TestLaws.{stop, pass, counts_is}
-use borrow.Author.Rules.{rules}
 use Rattle.lists.proofs.Bools.{not_of_false, not_of_true}
 use Rattle.soundness.proofs.header.counts_fine.Goals as goal
 

@@ -1,19 +1,15 @@
 -- `soundness::keyed::bond_records_fine` meets its contract. Assumes nothing.
 use Prim.Native.Nat.{◌-◌, ◌≤◌}
-use mathlib.Core.Path.{◌≡◌, sym, ◌∙◌}
+use mathlib.Core.Path.{◌≡◌}
 use mathlib.Core.Bool.{false}
-use native.Mathlib.Omega.{arith}
 use mathlib.Core.List.{◌∷◌}
 use lib.ListN.{drop}
 use lib.Dec.{ltb}
-use borrow.Author.Rules.{rules}
 use Rattle.lists.specs.Lists.{rows_from}
 use Rattle.lists.specs.Order.{ascends}
 use Rattle.format.specs.Labels.{Bonds}
 use Rattle.format.specs.Table.{base, width}
-use Rattle.format.proofs.PlaceLaws.{row_place_lem, row_small_lem}
 use Rattle.soundness.specs.Sounding.{record_key, records_fine}
-use Rattle.soundness.proofs.TestLaws.{records_is, keys_miss, keys_pass, keys_end}
 use Rattle.soundness.proofs.keyed.bond_records_fine.Given as goal
 
 abbrev pub invariant-loop-i : goal.invariant-loop-i

@@ -1,7 +1,6 @@
 -- `soundness::keyed::group_fine` meets its contract. Assumes nothing.
 use mathlib.Core.Path.{◌∙◌}
 use Rattle.soundness.proofs.TestLaws.{found, other, group_none, group_is}
-use borrow.Author.Rules.{rules}
 use Rattle.lists.proofs.Bools.{not_of_false}
 use Rattle.lists.proofs.Bools.{not_of_true}
 use Rattle.soundness.proofs.keyed.group_fine.Goals as goal

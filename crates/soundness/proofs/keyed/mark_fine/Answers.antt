@@ -1,7 +1,6 @@
 -- `soundness::keyed::mark_fine` meets its contract. Assumes nothing.
 use mathlib.Core.Path.{◌∙◌}
 use Rattle.soundness.proofs.TestLaws.{stop, pass, mark_is}
-use borrow.Author.Rules.{rules}
 use Rattle.lists.proofs.Bools.{not_of_false, not_of_true}
 use Rattle.soundness.proofs.keyed.mark_fine.Goals as goal
 

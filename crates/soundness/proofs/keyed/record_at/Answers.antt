@@ -2,7 +2,6 @@
 use Rattle.format.specs.Table.{row_place}
 use Rattle.soundness.specs.declared.keyed.Ordered.TheVariants.{Bond, Centre, Pair}
 use Rattle.soundness.proofs.TestLaws.{list_told}
-use borrow.Author.Rules.{rules}
 use Rattle.soundness.proofs.keyed.record_at.Goals as goal
 
 pub returns-in-Bond : goal.returns-in-Bond

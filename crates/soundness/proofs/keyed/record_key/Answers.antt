@@ -1,7 +1,6 @@
 -- `soundness::keyed::record_key` meets its contract. Assumes nothing.
 use mathlib.Core.Path.{◌∙◌}
 use Rattle.soundness.proofs.TestLaws.{key_none, key_some, record_is}
-use borrow.Author.Rules.{rules}
 use Rattle.lists.proofs.Bools.{not_of_false, not_of_true}
 use Rattle.soundness.proofs.keyed.record_key.Goals as goal
 

@@ -1,16 +1,9 @@
 -- `soundness::keyed::records_fine` meets its contract. Assumes nothing.
-use Prim.Native.Nat.{◌-◌, ◌≤◌}
-use mathlib.Core.Path.{◌≡◌, sym, ◌∙◌}
+use mathlib.Core.Path.{sym, ◌∙◌}
 use native.Mathlib.Omega.{arith}
-use mathlib.Core.List.{◌∷◌}
-use lib.ListN.{drop}
-use lib.Dec.{ltb}
-use borrow.Author.Rules.{rules}
-use Rattle.lists.specs.Lists.{rows_from}
-use Rattle.lists.specs.Order.{ascends}
-use Rattle.format.specs.Table.{base, width}
+use Rattle.format.specs.Table.{base}
 use Rattle.format.proofs.PlaceLaws.{row_place_lem, row_small_lem}
-use Rattle.soundness.specs.Sounding.{list_of, record_key, records_fine}
+use Rattle.soundness.specs.Sounding.{list_of, record_key}
 use Rattle.soundness.proofs.TestLaws.{records_is, keys_miss, keys_pass, keys_end}
 use Rattle.soundness.proofs.keyed.records_fine.Goals as goal
 

@@ -5,7 +5,6 @@ use Rattle.format.specs.Table.{base, width}
 use Rattle.soundness.specs.Sounding.{region_end}
 use Rattle.soundness.specs.declared.keyed.Ordered.TheVariants.{Bond, Centre, Pair}
 use Rattle.soundness.proofs.TestLaws.{list_told}
-use borrow.Author.Rules.{rules}
 use Rattle.soundness.proofs.keyed.region_end.Goals as goal
 
 pub returns-in-Bond : goal.returns-in-Bond

@@ -4,7 +4,6 @@ use native.Mathlib.Omega.{arith}
 use Rattle.format.proofs.PlaceLaws.{end_within, rows_behind}
 use Rattle.soundness.specs.Sounding.{list_of}
 use Rattle.soundness.proofs.RegionTests.{rest_is}
-use borrow.Author.Rules.{rules}
 use Rattle.soundness.proofs.keyed.rest_zero.Goals as goal
 
 pub offset_bounds-table-from : goal.offset_bounds-table-from

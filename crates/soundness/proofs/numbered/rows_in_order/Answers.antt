@@ -1,10 +1,6 @@
 -- `soundness::numbered::rows_in_order` meets its contract. Assumes nothing.
-use Prim.Native.Nat.{◌-◌, ◌≤◌}
-use mathlib.Core.Path.{◌≡◌, refl, sym, ◌∙◌}
+use mathlib.Core.Path.{refl, sym, ◌∙◌}
 use native.Mathlib.Omega.{arith}
-use borrow.Author.Rules.{rules}
-use lib.ListN.{drop}
-use Rattle.soundness.specs.Numbered.{column_of, in_turn}
 use Rattle.format.proofs.PlaceLaws.{atom_place_lem, atom_small}
 use Rattle.soundness.proofs.NumberedLoop.{higher_le, turn_at_beyond, turn_at_on, turn_whole, turn_void}
 use Rattle.soundness.proofs.InTurnLaws.{turn_none}

@@ -2,7 +2,6 @@
 use Rattle.soundness.proofs.ZeroLaws.{parts_out, parts_rest}
 use Prim.Native.Nat.{◌/◌}
 use lib.ListN.{length}
-use borrow.Author.Rules.{rules}
 use Rattle.lists.proofs.Bools.{not_of_false, not_of_true}
 use Rattle.soundness.proofs.parts.all_zero.Goals as goal
 

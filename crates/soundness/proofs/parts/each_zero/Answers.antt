@@ -1,14 +1,6 @@
 -- `soundness::parts::each_zero` meets its contract. Assumes nothing.
-use Prim.Native.Nat.{◌-◌, ◌≤◌}
-use mathlib.Core.Path.{◌≡◌, sym, ◌∙◌}
-use mathlib.Core.Bool.{◌&&◌}
+use mathlib.Core.Path.{sym, ◌∙◌}
 use native.Mathlib.Omega.{arith}
-use lib.ListN.{length, drop}
-use lib.Dec.{eqb}
-use borrow.Author.Rules.{rules}
-use Rattle.lists.specs.Lists.{all}
-use Rattle.format.specs.Structure.{ranging}
-use Rattle.soundness.specs.Sounding.{unused}
 use Rattle.soundness.proofs.TestLaws.{bits_of, unused_whole, zeros_kept, zeros_end}
 use Rattle.soundness.proofs.parts.each_zero.Goals as goal
 

@@ -2,16 +2,13 @@
 use mir.Syntax.{w32}
 use mir.Val.{of_z}
 use Prim.Native.Nat.{◌-◌, ◌≤◌}
-use mathlib.Core.Path.{◌≡◌, sym, ◌∙◌}
+use mathlib.Core.Path.{◌≡◌}
 use mathlib.Core.Bool.{◌&&◌}
-use native.Mathlib.Omega.{arith}
 use lib.ListN.{length, drop}
 use lib.Dec.{eqb}
-use borrow.Author.Rules.{rules}
 use Rattle.lists.specs.Lists.{all}
 use Rattle.format.specs.Structure.{ranging}
 use Rattle.soundness.specs.Sounding.{unused}
-use Rattle.soundness.proofs.TestLaws.{unused_whole, zeros_turn, zeros_end}
 use Rattle.soundness.proofs.parts.each_zero.Given as goal
 
 abbrev pub invariant-loop-i : goal.invariant-loop-i

@@ -1,12 +1,7 @@
 -- `soundness::parts::four_zero` meets its contract. Assumes nothing.
-use Prim.Native.Nat.{◌-◌, ◌≤◌}
-use mathlib.Core.Path.{◌≡◌, sym, ◌∙◌}
-use mathlib.Core.Bool.{◌&&◌}
+use mathlib.Core.Path.{sym, ◌∙◌}
 use native.Mathlib.Omega.{arith}
-use lib.Dec.{eqb}
-use borrow.Author.Rules.{rules}
-use Rattle.soundness.specs.Sounding.{unused}
-use Rattle.soundness.proofs.ZeroLaws.{four_zeros, four_whole, four_kept, four_end}
+use Rattle.soundness.proofs.ZeroLaws.{four_whole, four_kept, four_end}
 use Rattle.soundness.proofs.TestLaws.{bits_of}
 use Rattle.soundness.proofs.parts.four_zero.Goals as goal
 

@@ -2,13 +2,11 @@
 use mir.Syntax.{w32}
 use mir.Val.{of_z}
 use Prim.Native.Nat.{◌-◌, ◌≤◌}
-use mathlib.Core.Path.{◌≡◌, sym, ◌∙◌}
+use mathlib.Core.Path.{◌≡◌}
 use mathlib.Core.Bool.{◌&&◌}
-use native.Mathlib.Omega.{arith}
 use lib.Dec.{eqb}
-use borrow.Author.Rules.{rules}
 use Rattle.soundness.specs.Sounding.{unused}
-use Rattle.soundness.proofs.ZeroLaws.{four_zeros, four_whole, four_turn, four_end}
+use Rattle.soundness.proofs.ZeroLaws.{four_zeros}
 use Rattle.soundness.proofs.parts.four_zero.Given as goal
 
 abbrev pub invariant-loop-i : goal.invariant-loop-i

@@ -1,11 +1,7 @@
 -- `soundness::parts::none_negative` meets its contract. Assumes nothing.
-use Prim.Native.Nat.{◌-◌, ◌≤◌}
-use mathlib.Core.Path.{◌≡◌, refl, sym, ◌∙◌}
+use mathlib.Core.Path.{refl, sym, ◌∙◌}
 use native.Mathlib.Omega.{arith}
-use borrow.Author.Rules.{rules}
 use mathlib.Core.Bool.{not}
-use lib.ListN.{length, drop}
-use Rattle.lists.specs.Lists.{all}
 use Rattle.cells.specs.Signs.{negative}
 use Rattle.soundness.proofs.TestLaws.{signs_miss, signs_pass, numbers_end}
 use Rattle.soundness.proofs.parts.none_negative.Goals as goal

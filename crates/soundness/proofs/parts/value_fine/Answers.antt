@@ -1,7 +1,6 @@
 -- `soundness::parts::value_fine` meets its contract. Assumes nothing.
 use mathlib.Core.Path.{◌∙◌}
 use Rattle.soundness.proofs.TestLaws.{value_low, value_high, value_plain}
-use borrow.Author.Rules.{rules}
 use Rattle.soundness.proofs.parts.value_fine.Goals as goal
 
 pub returns-then-size-lt1 : goal.returns-then-size-lt1

@@ -1,10 +1,6 @@
 -- `soundness::parts::values_fine` meets its contract. Assumes nothing.
-use Prim.Native.Nat.{◌-◌, ◌≤◌}
-use mathlib.Core.Path.{◌≡◌, refl, sym, ◌∙◌}
+use mathlib.Core.Path.{refl, sym, ◌∙◌}
 use native.Mathlib.Omega.{arith}
-use borrow.Author.Rules.{rules}
-use lib.ListN.{length, drop}
-use Rattle.lists.specs.Lists.{all}
 use Rattle.soundness.specs.Sounding.{value_fine}
 use Rattle.soundness.proofs.TestLaws.{numbers_miss, numbers_pass, numbers_end}
 use Rattle.lists.proofs.Bools.{not_of_false, not_of_true}

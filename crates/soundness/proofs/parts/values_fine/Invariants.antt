@@ -1,12 +1,9 @@
 -- `soundness::parts::values_fine` meets its contract. Assumes nothing.
 use Prim.Native.Nat.{◌-◌, ◌≤◌}
-use mathlib.Core.Path.{◌≡◌, refl, sym, ◌∙◌}
-use native.Mathlib.Omega.{arith}
-use borrow.Author.Rules.{rules}
+use mathlib.Core.Path.{◌≡◌}
 use lib.ListN.{length, drop}
 use Rattle.lists.specs.Lists.{all}
 use Rattle.soundness.specs.Sounding.{value_fine}
-use Rattle.soundness.proofs.TestLaws.{numbers_miss, numbers_pass, numbers_end}
 use Rattle.soundness.proofs.parts.values_fine.Given as goal
 
 abbrev pub invariant-loop-i : goal.invariant-loop-i

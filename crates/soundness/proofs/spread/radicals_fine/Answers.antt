@@ -6,7 +6,6 @@ use Rattle.soundness.specs.Numbered.{column_of, in_turn}
 use Rattle.format.specs.Table.{cell as cell_of}
 use Rattle.soundness.proofs.TestLaws.{stop, pass}
 use Rattle.soundness.proofs.RegionTests.{radicals_from, values_are, radicals_is, radicals_up}
-use borrow.Author.Rules.{rules}
 use Rattle.lists.proofs.Bools.{not_of_false, not_of_true}
 use Rattle.soundness.proofs.spread.radicals_fine.Goals as goal
 

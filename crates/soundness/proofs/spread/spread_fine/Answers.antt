@@ -1,6 +1,5 @@
 -- `soundness::spread::spread_fine` meets its contract. Assumes nothing.
 use Rattle.soundness.proofs.TestLaws.{stop, pass}
-use borrow.Author.Rules.{rules}
 use Rattle.lists.proofs.Bools.{not_of_false, not_of_true}
 use Rattle.soundness.proofs.spread.spread_fine.Goals as goal
 

@@ -1,7 +1,6 @@
 -- `symbols::groups::bond_kind` meets its contract. Assumes nothing.
 use native.Mathlib.Omega.{arith}
 use Rattle.symbols.proofs.LetterLaws.{shows_long, shows_place, shows_else, kinds, no_kind}
-use borrow.Author.Rules.{rules}
 use Rattle.symbols.proofs.groups.bond_kind.Goals as goal
 
 pub returns-then-word-ne1 : goal.returns-then-word-ne1

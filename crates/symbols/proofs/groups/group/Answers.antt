@@ -4,7 +4,6 @@ use native.Mathlib.Omega.{arith}
 use Rattle.format.proofs.ByteLaws.{upper_bounds, lower_bounds}
 use Rattle.numbers.proofs.NumeralLaws.{shows_wrong, shows_value}
 use Rattle.symbols.proofs.LetterLaws.{group_long, group_zero, group_upper, group_lower, group_else}
-use borrow.Author.Rules.{rules}
 use Rattle.symbols.proofs.groups.group.Goals as goal
 
 pub returns-then-word-ne1 : goal.returns-then-word-ne1

@@ -1,7 +1,6 @@
 -- `symbols::groups::pair_hand` meets its contract. Assumes nothing.
 use native.Mathlib.Omega.{arith}
 use Rattle.symbols.proofs.LetterLaws.{shows_long, shows_place, shows_else, pair_hands, no_pair_hand}
-use borrow.Author.Rules.{rules}
 use Rattle.symbols.proofs.groups.pair_hand.Goals as goal
 
 pub returns-then-word-ne1 : goal.returns-then-word-ne1

@@ -1,6 +1,5 @@
 -- `tally::elements::element_of` meets its contract. Assumes nothing.
 use Rattle.tally.proofs.RankLaws.{elements, element_told}
-use borrow.Author.Rules.{rules}
 use Rattle.tally.proofs.elements.element_of.Goals as goal
 
 pub returns-in-1 : goal.returns-in-1

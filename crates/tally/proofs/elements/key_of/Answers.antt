@@ -2,7 +2,6 @@
 use native.Mathlib.Omega.{arith}
 use Rattle.format.proofs.ByteLaws.{within_low, within_high}
 use Rattle.tally.proofs.KeyLaws.{key_no_element, key_no_mass, key_is}
-use borrow.Author.Rules.{rules}
 use Rattle.tally.proofs.elements.key_of.Goals as goal
 
 pub returns-then-element-lt1 : goal.returns-then-element-lt1

@@ -1,7 +1,6 @@
 -- `tally::elements::listed` meets its contract. Assumes nothing.
 use native.Mathlib.Omega.{arith}
 use Rattle.tally.proofs.RankLaws.{elements, element_is, element_byte, element_none}
-use borrow.Author.Rules.{rules}
 use Rattle.tally.proofs.elements.listed.Goals as goal
 
 pub overflow_cast-result-then-rank-lt104 : goal.overflow_cast-result-then-rank-lt104

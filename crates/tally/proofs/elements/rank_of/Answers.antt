@@ -2,7 +2,6 @@
 use native.Mathlib.Omega.{arith}
 use mathlib.Core.Path.{refl}
 use Rattle.tally.proofs.RankLaws.{ranks, rank_entry, rank_high, rank_told}
-use borrow.Author.Rules.{rules}
 use Rattle.tally.proofs.elements.rank_of.Goals as goal
 
 pub overflow_cast-result-in_default : goal.overflow_cast-result-in_default

@@ -2,7 +2,6 @@
 use native.Mathlib.Omega.{arith}
 use lib.ListN.{length-set}
 use Rattle.tally.proofs.AddLaws.{stands, add_raised, add_put}
-use borrow.Author.Rules.{rules}
 use Rattle.tally.proofs.entries.add.Goals as goal
 
 pub overflow_add-counts : goal.overflow_add-counts

@@ -1,7 +1,6 @@
 -- `tally::entries::find` meets its contract. Assumes nothing.
 use native.Mathlib.Omega.{arith}
 use Rattle.tally.proofs.SearchLaws.{found_at}
-use borrow.Author.Rules.{rules}
 use Rattle.tally.proofs.entries.find.Goals as goal
 
 pub returns-then-keys-likely : goal.returns-then-keys-likely

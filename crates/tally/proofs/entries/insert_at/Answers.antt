@@ -1,9 +1,7 @@
 -- `tally::entries::insert_at` meets its contract. Assumes nothing.
-use Prim.Native.Nat.{◌≤◌}
-use mathlib.Core.Path.{◌≡◌}
 use native.Mathlib.Omega.{arith}
-use lib.ListN.{length, length-set}
-use Rattle.tally.proofs.GapLaws.{Moved, moved_none, moved_one, put_in}
+use lib.ListN.{length-set}
+use Rattle.tally.proofs.GapLaws.{moved_none, moved_one, put_in}
 use Rattle.tally.proofs.entries.insert_at.Goals as goal
 
 pub loop-j-init : goal.loop-j-init

@@ -1,9 +1,8 @@
 -- `tally::entries::insert_at` meets its contract. Assumes nothing.
 use Prim.Native.Nat.{◌≤◌}
 use mathlib.Core.Path.{◌≡◌}
-use native.Mathlib.Omega.{arith}
-use lib.ListN.{length, length-set}
-use Rattle.tally.proofs.GapLaws.{Moved, moved_none, moved_one, put_in}
+use lib.ListN.{length}
+use Rattle.tally.proofs.GapLaws.{Moved}
 use Rattle.tally.proofs.entries.insert_at.Given as goal
 
 abbrev pub invariant-loop-j : goal.invariant-loop-j

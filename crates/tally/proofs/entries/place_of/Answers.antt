@@ -1,7 +1,5 @@
 -- `tally::entries::place_of` meets its contract. Assumes nothing.
-use Prim.Native.Nat.{◌-◌, ◌≤◌, ◌<◌}
 use native.Mathlib.Omega.{arith}
-use Rattle.tally.specs.Gathering.{KeysAscend, Between}
 use Rattle.tally.proofs.SearchLaws.{no_keys, behind_last, before_last, search_up, search_down, search_ends}
 use Rattle.tally.proofs.entries.place_of.Goals as goal
 

@@ -1,7 +1,6 @@
 -- A label line: each return is one case of its first two bytes. Assumes nothing.
 use mathlib.Core.Path.{sym}
 use Rattle.transfer.proofs.LabelTests.{label_short, label_other, label_second}
-use borrow.Author.Rules.{rules}
 use Rattle.transfer.proofs.names.is_label.Goals as goal
 
 pub returns-then-line-lt2 : goal.returns-then-line-lt2

@@ -1,12 +1,9 @@
 -- Where a text ends: the place stays the same from one line that starts with `#` to the next, up to a label line. Assumes nothing.
 use Prim.Native.Nat.{◌-◌}
-use mathlib.Core.Path.{◌≡◌, sym, ◌∙◌}
-use native.Mathlib.Omega.{arith}
-use borrow.Author.Rules.{rules}
+use mathlib.Core.Path.{◌≡◌}
 use lib.ListN.{length, drop}
 use Rattle.format.specs.Bytes.{cut}
 use Rattle.transfer.specs.Texts.{text_to}
-use Rattle.transfer.proofs.NameLaws.{text_skip, text_end, text_hit, text_goes, text_ends}
 use Rattle.transfer.proofs.names.text_end.Given as goal
 
 abbrev pub invariant-loop-i : goal.invariant-loop-i

@@ -1,9 +1,7 @@
 -- The title: each return is one case of the first line. Assumes nothing.
 use mathlib.Core.Path.{sym, ◌∙◌}
 use native.Mathlib.Omega.{arith}
-use borrow.Author.Tests.{not-true, not-false}
 use Rattle.transfer.proofs.NameLaws.{title_other, title_kept}
-use borrow.Author.Rules.{rules}
 use Rattle.transfer.proofs.names.title.Goals as goal
 
 pub slice_bounds-is_title_line-end : goal.slice_bounds-is_title_line-end

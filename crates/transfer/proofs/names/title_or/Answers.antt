@@ -1,5 +1,4 @@
 -- The title or the stand-in: the name from the title's part. Assumes nothing.
-use borrow.Author.Rules.{rules}
 use Rattle.transfer.proofs.NameLaws.{name_empty, name_shown}
 use Rattle.transfer.proofs.names.title_or.Goals as goal
 

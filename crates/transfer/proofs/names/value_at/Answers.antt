@@ -1,6 +1,5 @@
 -- Where a line's value starts: each kind of line has its own place. Assumes nothing.
 use Rattle.transfer.proofs.LabelTests.{value_told}
-use borrow.Author.Rules.{rules}
 use Rattle.transfer.proofs.names.value_at.Goals as goal
 
 pub returns-in-Plain : goal.returns-in-Plain

@@ -1,9 +1,7 @@
 -- A line that is looked at: each return is one case of the test. Assumes nothing.
 use mathlib.Core.Path.{sym, ap, ◌∙◌}
 use mathlib.Core.Bool.{not}
-use borrow.Author.Tests.{not-true, not-false}
 use Rattle.transfer.proofs.SkipLaws.{no_hash, any_hash, short_hash, third_hash}
-use borrow.Author.Rules.{rules}
 use Rattle.transfer.proofs.skips.heeded.Goals as goal
 
 pub returns-then-file-i-ne35 : goal.returns-then-file-i-ne35

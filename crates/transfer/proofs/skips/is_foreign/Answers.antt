@@ -1,7 +1,6 @@
 -- A letter that neither TITLE nor END starts with: each return is one case of the test. Assumes nothing.
 use mathlib.Core.Path.{sym, ◌∙◌}
 use Rattle.transfer.proofs.TurnLaws.{own_t, own_lower_t, own_e, own_lower_e, foreign_upper, foreign_lower, foreign_rest}
-use borrow.Author.Rules.{rules}
 use Rattle.transfer.proofs.skips.is_foreign.Goals as goal
 
 pub returns-then-b-eq84 : goal.returns-then-b-eq84

@@ -1,11 +1,6 @@
 -- The next line that is looked at: what is left to skip is by the laws of `skipped` at an index. Assumes nothing.
-use borrow.Author.Rules.{rules}
-use Prim.Native.Nat.{◌+◌, ◌-◌, ◌≤◌}
-use mathlib.Core.Path.{◌≡◌, sym, ◌∙◌}
-use mathlib.Core.Bool.{true}
+use mathlib.Core.Path.{sym, ◌∙◌}
 use native.Mathlib.Omega.{arith}
-use lib.ListN.{length, drop}
-use Rattle.transfer.specs.Skipping.{skipped, fresh_at}
 use Rattle.transfer.proofs.SkipLaws.{skip_start, skip_at_hit, skip_at_miss, skip_at_end}
 use Rattle.transfer.proofs.skips.skip_to_label.Goals as goal
 

@@ -1,8 +1,6 @@
 -- A line that is looked at and starts there: each return is one case of the test. Assumes nothing.
 use mathlib.Core.Path.{sym, ◌∙◌}
-use borrow.Author.Tests.{not-true, not-false}
 use Rattle.transfer.proofs.SkipLaws.{start_other, start_first, start_behind}
-use borrow.Author.Rules.{rules}
 use Rattle.transfer.proofs.skips.starts_at.Goals as goal
 
 pub returns-then-not-heeded : goal.returns-then-not-heeded

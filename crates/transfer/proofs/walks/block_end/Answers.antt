@@ -1,11 +1,7 @@
 -- The end of a block: the walk ahead stays the same from one line that starts with `#` to the next, up to the line that ends it. Assumes nothing.
-use Prim.Native.Nat.{◌-◌}
-use mathlib.Core.Path.{◌≡◌, ◌∙◌}
+use mathlib.Core.Path.{◌∙◌}
 use native.Mathlib.Omega.{arith}
-use borrow.Author.Rules.{rules}
-use lib.ListN.{length}
-use Rattle.format.specs.Walking.{in_block}
-use Rattle.format.proofs.WalkLaws.{ahead, ahead_end}
+use Rattle.format.proofs.WalkLaws.{ahead_end}
 use Rattle.transfer.proofs.SkipLaws.{skip_block}
 use Rattle.transfer.proofs.StepLaws.{block_at_title, block_at_end, block_goes}
 use Rattle.transfer.proofs.walks.block_end.Goals as goal

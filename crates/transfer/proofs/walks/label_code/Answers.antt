@@ -1,6 +1,5 @@
 -- A label's code: each kind of line has its own. Assumes nothing.
 use Rattle.transfer.proofs.StepLaws.{coded}
-use borrow.Author.Rules.{rules}
 use Rattle.transfer.proofs.walks.label_code.Goals as goal
 
 pub returns-in-Plain : goal.returns-in-Plain

@@ -1,11 +1,7 @@
 -- The end of a stray run: the walk ahead stays the same from one line that starts with `#` to the next, up to a TITLE line. Assumes nothing.
-use Prim.Native.Nat.{◌-◌}
-use mathlib.Core.Path.{◌≡◌, ◌∙◌}
+use mathlib.Core.Path.{◌∙◌}
 use native.Mathlib.Omega.{arith}
-use borrow.Author.Rules.{rules}
-use lib.ListN.{length}
-use Rattle.format.specs.Walking.{in_stray}
-use Rattle.format.proofs.WalkLaws.{ahead, ahead_end}
+use Rattle.format.proofs.WalkLaws.{ahead_end}
 use Rattle.transfer.proofs.SkipLaws.{skip_stray}
 use Rattle.transfer.proofs.StepLaws.{stray_at_title, stray_goes}
 use Rattle.transfer.proofs.walks.stray_end.Goals as goal

@@ -5,7 +5,6 @@ use Rattle.format.specs.Walking.{walk_result}
 use Rattle.format.proofs.WalkLaws.{walk_long, walk_beyond}
 use Rattle.transfer.proofs.StepLaws.{title_is, title_not, walk_end, walk_block, walk_stray}
 use Rattle.transfer.specs.Shown.{shown}
-use borrow.Author.Rules.{rules}
 use Rattle.transfer.proofs.walks.walk.Goals as goal
 
 pub returns-then-file-gt-FILE : goal.returns-then-file-gt-FILE
