@@ -1,6 +1,6 @@
 -- A label line's turn and a line's step, from what the labels seen, the value's turn and the further line's turn promise: document 01, "Lines and labels" and
 -- "Refusal numbers". Assumes nothing.
-use Prim.Native.Nat.{ℕ, zero, suc, ◌+◌, ◌-◌, ◌≤◌, ◌<◌}
+use Prim.Native.Nat.{ℕ, ◌+◌, ◌-◌, ◌≤◌, ◌<◌}
 use mathlib.Core.Path.{◌≡◌, refl, sym, ap, ◌∙◌}
 use mathlib.Core.Bool.{Bool, true, false, ◌&&◌, not}
 use mathlib.Core.List.{List, [], ◌∷◌}
@@ -13,7 +13,7 @@ use Rattle.lists.specs.Lists.{is_nil, all}
 use Rattle.lists.proofs.Bools.{and_parts, eqb_symm}
 use Rattle.lists.proofs.ListLaws.{all_parts}
 use Rattle.format.specs.Bytes.{Bytes, allowed}
-use Rattle.format.specs.Labels.{Bonds, Charges, Radicals, Centres, Pairs, Label, label, known, lookup, misplaced, Labelled, has_code, line_of, title_line}
+use Rattle.format.specs.Labels.{Bonds, Charges, Radicals, Centres, Pairs, Label, known, misplaced, Labelled, has_code, line_of, title_line}
 use Rattle.format.specs.Reading.{Rules, State, if◌stop◌else◌, noted, opened, over, value_turn, further_turn, line_turn, line_step}
 use Rattle.format.proofs.ReadingLaws.{step_first, step_on, line_plain, line_unparted}
 use Rattle.labels.specs.ShownLines.{by_code, shown_line, ShowsLine}

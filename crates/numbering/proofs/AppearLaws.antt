@@ -1,6 +1,6 @@
 -- Charge or radical rows in order, looked at atom by atom: the rows appear in their order, each at its lowest atom, and the row without atoms is the last. "Charge and
 -- radical rows ascend by lowest atom, the row without atoms last" (document 01, "The structure table"). Assumes nothing.
-use Prim.Native.Nat.{ℕ, suc, ◌+◌, ◌-◌, ◌≤◌, ◌<◌}
+use Prim.Native.Nat.{ℕ, suc, ◌+◌, ◌≤◌, ◌<◌}
 use mathlib.Core.Path.{◌≡◌, refl, sym, ap, ◌∙◌}
 use mathlib.Core.Bool.{Bool, true, false, ◌&&◌}
 use mathlib.Core.Logic.{◌⊎◌, inl, inr}

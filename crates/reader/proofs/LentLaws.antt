@@ -1,6 +1,6 @@
 -- What is lent to a reading: when it is short, what clearing and filling leave of it, and the rows of XYZ in the table's first 1,024 numbers. Document 01, "The structure
 -- table"; document 02, L2. Assumes nothing.
-use Prim.Native.Nat.{ℕ, ◌+◌, ◌-◌, ◌*◌, ◌≤◌}
+use Prim.Native.Nat.{ℕ, ◌+◌, ◌*◌, ◌≤◌}
 use mathlib.Core.Path.{◌≡◌, sym, ap, ◌∙◌}
 use mathlib.Core.Bool.{Bool, false, ◌||◌}
 use mathlib.Core.List.{List, ◌++◌, map}

@@ -1,6 +1,5 @@
 -- `filling::put` meets its contract. Assumes nothing.
 use Rattle.filling.proofs.FillLaws.{stored_small, stored_large, stored_none}
-use borrow.Author.Rules.{rules}
 use Rattle.filling.proofs.put.Goals as goal
 
 pub returns-then-part-at : goal.returns-then-part-at

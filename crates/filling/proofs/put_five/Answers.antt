@@ -1,6 +1,5 @@
 -- `filling::put_five` meets its contract. Assumes nothing.
 use Rattle.filling.proofs.FillLaws.{placed_next}
-use borrow.Author.Rules.{rules}
 use Rattle.filling.proofs.put_five.Goals as goal
 
 pub returns : goal.returns

@@ -1,6 +1,5 @@
 -- `filling::put_four` meets its contract. Assumes nothing.
 use Rattle.filling.proofs.FillLaws.{placed_next}
-use borrow.Author.Rules.{rules}
 use Rattle.filling.proofs.put_four.Goals as goal
 
 pub returns : goal.returns

@@ -1,7 +1,6 @@
 -- `gather::rows_run` meets its contract. Assumes nothing.
 use mathlib.Core.Path.{refl, sym, ◌∙◌}
 use Rattle.gather.proofs.RunLaws.{run_none, run_atoms, run_bonds}
-use borrow.Author.Rules.{rules}
 use Rattle.gather.proofs.rows_run.Goals as goal
 
 pub returns-then-scratch-ne-SIZE : goal.returns-then-scratch-ne-SIZE

@@ -6,7 +6,6 @@ use Rattle.filling.proofs.FillLaws.{as_it_was, filled_where}
 use Rattle.format.proofs.PlaceLaws.{text_place_lem}
 use Rattle.header.proofs.GuardLaws.{tells_no, tells_yes}
 use Rattle.header.proofs.HeaderLaws.{header_is, text_placed}
-use borrow.Author.Rules.{rules}
 use Rattle.lists.proofs.Bools.{not_of_false, not_of_true}
 use Rattle.header.proofs.fill_header.Goals as goal
 

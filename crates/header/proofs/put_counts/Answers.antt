@@ -1,7 +1,6 @@
 -- `header::put_counts` meets its contract. Assumes nothing.
 use native.Mathlib.Omega.{arith}
 use Rattle.header.proofs.HeaderLaws.{counts_placed, placed_length}
-use borrow.Author.Rules.{rules}
 use Rattle.header.proofs.put_counts.Goals as goal
 
 pub overflow_cast-p : goal.overflow_cast-p

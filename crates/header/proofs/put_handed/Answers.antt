@@ -1,6 +1,5 @@
 -- `header::put_handed` meets its contract. Assumes nothing.
 use Rattle.header.proofs.HeaderLaws.{handed_placed, unhanded_placed}
-use borrow.Author.Rules.{rules}
 use Rattle.header.proofs.put_handed.Goals as goal
 
 pub returns-then-handed : goal.returns-then-handed

@@ -1,6 +1,5 @@
 -- `header::put_text` meets its contract. Assumes nothing.
 use Rattle.header.proofs.HeaderLaws.{text_empty, text_full, span_placed}
-use borrow.Author.Rules.{rules}
 use Rattle.header.proofs.put_text.Goals as goal
 
 pub returns-then-kept : goal.returns-then-kept

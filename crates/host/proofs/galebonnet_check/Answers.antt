@@ -1,5 +1,4 @@
 -- The check is the reader's. Assumes nothing.
-use borrow.Author.Rules.{rules}
 use Rattle.host.proofs.galebonnet_check.Goals as goal
 
 pub returns : goal.returns

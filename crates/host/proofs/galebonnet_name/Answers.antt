@@ -1,5 +1,4 @@
 -- The title's part packed: each return is one case of it. Assumes nothing.
-use borrow.Author.Rules.{rules}
 use Rattle.host.proofs.PackLaws.{title_long, title_none, title_packed}
 use Rattle.host.proofs.galebonnet_name.Goals as goal
 

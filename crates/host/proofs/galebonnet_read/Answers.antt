@@ -1,6 +1,5 @@
 -- The reading packed: each answer is one case. Assumes nothing.
 use native.Mathlib.Omega.{arith}
-use borrow.Author.Rules.{rules}
 use Rattle.reader.proofs.PlacedLaws.{place_fits}
 use Rattle.host.proofs.PackLaws.{read_packed, read_tables}
 use Rattle.host.proofs.galebonnet_read.Goals as goal

@@ -2,7 +2,6 @@
 use mathlib.Core.Path.{sym, ap, ◌∙◌}
 use native.Mathlib.Nat.{add-zero}
 use native.Mathlib.Omega.{arith}
-use borrow.Author.Rules.{rules}
 use Rattle.transfer.specs.Shown.{shown}
 use Rattle.transfer.proofs.InsideLaws.{block_inside, stray_inside}
 use Rattle.transfer.proofs.OneAnswer.{walk_told}

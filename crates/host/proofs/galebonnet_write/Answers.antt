@@ -1,5 +1,4 @@
 -- The writing packed: each answer is one case. Assumes nothing.
-use borrow.Author.Rules.{rules}
 use Rattle.host.proofs.PackLaws.{count_packed, refusal_packed, written_buffer}
 use Rattle.host.proofs.galebonnet_write.Goals as goal
 

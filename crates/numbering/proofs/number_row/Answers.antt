@@ -4,7 +4,6 @@ use native.Mathlib.Omega.{arith}
 use lib.ListN.{length-set}
 use Rattle.numbering.proofs.NumberingLaws.{new_zero, new_beyond, new_numbered, new_is}
 use Rattle.numbering.proofs.OrderingLaws.{row_kept, row_given}
-use borrow.Author.Rules.{rules}
 use Rattle.numbering.proofs.number_row.Goals as goal
 
 pub returns-then-row-eq0 : goal.returns-then-row-eq0

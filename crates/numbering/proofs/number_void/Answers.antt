@@ -2,7 +2,6 @@
 use mathlib.Core.Path.{refl}
 use lib.ListN.{length-set}
 use Rattle.numbering.proofs.OrderingLaws.{void_absent, void_set, void_beyond}
-use borrow.Author.Rules.{rules}
 use Rattle.numbering.proofs.number_void.Goals as goal
 
 pub returns-then-void-eq0 : goal.returns-then-void-eq0

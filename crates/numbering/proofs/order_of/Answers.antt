@@ -1,10 +1,6 @@
 -- `numbering::order_of` meets its contract. Assumes nothing.
-use Prim.Native.Nat.{◌+◌, ◌-◌, ◌≤◌}
-use mathlib.Core.Path.{◌≡◌, ◌∙◌}
+use mathlib.Core.Path.{◌∙◌}
 use native.Mathlib.Omega.{arith}
-use borrow.Author.Rules.{rules}
-use lib.ListN.{length, take, drop}
-use Rattle.numbering.specs.Numbering.{numbered}
 use Rattle.numbering.proofs.OrderingLaws.{numbered_start, numbered_step, numbered_end, order_is}
 use Rattle.numbering.proofs.order_of.Goals as goal
 

@@ -1,11 +1,8 @@
 -- `numbering::order_of` meets its contract. Assumes nothing.
 use Prim.Native.Nat.{◌+◌, ◌-◌, ◌≤◌}
-use mathlib.Core.Path.{◌≡◌, ◌∙◌}
-use native.Mathlib.Omega.{arith}
-use borrow.Author.Rules.{rules}
+use mathlib.Core.Path.{◌≡◌}
 use lib.ListN.{length, take, drop}
 use Rattle.numbering.specs.Numbering.{numbered}
-use Rattle.numbering.proofs.OrderingLaws.{numbered_start, numbered_step, numbered_end, order_is}
 use Rattle.numbering.proofs.order_of.Given as goal
 
 abbrev pub invariant-loop-i : goal.invariant-loop-i

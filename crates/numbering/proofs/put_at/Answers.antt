@@ -2,7 +2,6 @@
 use mathlib.Core.Path.{refl}
 use lib.ListN.{length-set}
 use Rattle.numbering.proofs.OrderingLaws.{put_none, put_beyond, put_is}
-use borrow.Author.Rules.{rules}
 use Rattle.numbering.proofs.put_at.Goals as goal
 
 pub returns-then-place-eq0 : goal.returns-then-place-eq0

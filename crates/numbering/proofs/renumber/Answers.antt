@@ -1,7 +1,6 @@
 -- `numbering::renumber` meets its contract. Assumes nothing.
 use native.Mathlib.Omega.{arith}
 use Rattle.numbering.proofs.NumberedLaws.{renumbers}
-use borrow.Author.Rules.{rules}
 use Rattle.numbering.proofs.renumber.Goals as goal
 
 pub returns-then-region-ne-SPREAD : goal.returns-then-region-ne-SPREAD

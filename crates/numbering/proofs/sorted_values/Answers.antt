@@ -1,10 +1,7 @@
 -- `numbering::sorted_values` meets its contract. Assumes nothing.
-use Prim.Native.Nat.{◌+◌, ◌-◌, ◌≤◌}
-use mathlib.Core.Path.{◌≡◌, ◌∙◌}
+use Prim.Native.Nat.{◌+◌}
+use mathlib.Core.Path.{◌∙◌}
 use native.Mathlib.Omega.{arith}
-use borrow.Author.Rules.{rules}
-use lib.ListN.{length, take, drop}
-use Rattle.numbering.specs.Numbering.{through}
 use Rattle.numbering.proofs.OrderingLaws.{through_start, through_step, through_end}
 use Rattle.numbering.proofs.SortedValueLaws.{values_are}
 use Rattle.numbering.proofs.sorted_values.Goals as goal

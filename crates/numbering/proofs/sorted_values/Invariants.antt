@@ -1,12 +1,8 @@
 -- `numbering::sorted_values` meets its contract. Assumes nothing.
 use Prim.Native.Nat.{◌+◌, ◌-◌, ◌≤◌}
-use mathlib.Core.Path.{◌≡◌, ◌∙◌}
-use native.Mathlib.Omega.{arith}
-use borrow.Author.Rules.{rules}
+use mathlib.Core.Path.{◌≡◌}
 use lib.ListN.{length, take, drop}
 use Rattle.numbering.specs.Numbering.{through}
-use Rattle.numbering.proofs.OrderingLaws.{through_start, through_step, through_end}
-use Rattle.numbering.proofs.SortedValueLaws.{values_are}
 use Rattle.numbering.proofs.sorted_values.Given as goal
 
 abbrev pub invariant-loop-i : goal.invariant-loop-i

@@ -1,7 +1,6 @@
 -- `publish::fill_marked` meets its contract. Assumes nothing.
 use native.Mathlib.Omega.{arith}
 use Rattle.publish.proofs.PublishLaws.{marked_whole}
-use borrow.Author.Rules.{rules}
 use Rattle.publish.proofs.fill_marked.Goals as goal
 
 pub returns : goal.returns

@@ -1,7 +1,6 @@
 -- `publish::fill_rows` meets its contract. Assumes nothing.
 use native.Mathlib.Omega.{arith}
 use Rattle.publish.proofs.PublishLaws.{rows_whole}
-use borrow.Author.Rules.{rules}
 use Rattle.publish.proofs.fill_rows.Goals as goal
 
 pub returns : goal.returns

@@ -1,7 +1,6 @@
 -- `publish::fill_spread` meets its contract. Assumes nothing.
 use native.Mathlib.Omega.{arith}
 use Rattle.publish.proofs.PublishLaws.{spread_whole}
-use borrow.Author.Rules.{rules}
 use Rattle.publish.proofs.fill_spread.Goals as goal
 
 pub returns : goal.returns

@@ -1,7 +1,6 @@
 -- `publish::fill_table` meets its contract. Assumes nothing.
 use native.Mathlib.Omega.{arith}
 use Rattle.publish.proofs.PublishLaws.{table_whole}
-use borrow.Author.Rules.{rules}
 use Rattle.publish.proofs.fill_table.Goals as goal
 
 pub returns : goal.returns

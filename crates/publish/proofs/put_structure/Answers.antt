@@ -2,7 +2,6 @@
 use mathlib.Core.Path.{sym}
 use Rattle.lists.proofs.PartLaws.{filled_nil}
 use Rattle.publish.proofs.PublishLaws.{publishes}
-use borrow.Author.Rules.{rules}
 use Rattle.publish.proofs.put_structure.Goals as goal
 
 pub returns : goal.returns

@@ -1,7 +1,6 @@
 -- `reader::accept` meets its contract. Assumes nothing.
 use mathlib.Core.Path.{refl}
 use Rattle.reader.proofs.LentLaws.{accepts}
-use borrow.Author.Rules.{rules}
 use Rattle.reader.proofs.accept.Goals as goal
 
 pub returns : goal.returns

@@ -1,6 +1,5 @@
 -- `reader::check` meets its contract. Assumes nothing.
 use Rattle.reader.proofs.AnsweredLaws.{check_long, check_accepted, check_refused, place_within}
-use borrow.Author.Rules.{rules}
 use Rattle.reader.proofs.check.Goals as goal
 
 pub returns-then-block-gt-BLOCK : goal.returns-then-block-gt-BLOCK

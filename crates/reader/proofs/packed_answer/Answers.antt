@@ -1,6 +1,5 @@
 -- `reader::packed_answer` meets its contract. Assumes nothing.
 use mathlib.Core.Path.{refl}
-use borrow.Author.Rules.{rules}
 use Rattle.reader.proofs.packed_answer.Goals as goal
 
 pub returns : goal.returns

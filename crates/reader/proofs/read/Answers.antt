@@ -4,7 +4,6 @@ use native.Mathlib.Omega.{arith}
 use Rattle.format.specs.Table.{lent}
 use Rattle.format.proofs.RefusedLaws.{long_both}
 use Rattle.reader.proofs.AnsweredLaws.{read_short, read_long, read_accepted, read_refused, judged_long}
-use borrow.Author.Rules.{rules}
 use Rattle.reader.proofs.read.Goals as goal
 
 pub returns-then-is_short : goal.returns-then-is_short

@@ -1,11 +1,5 @@
 -- `totals::all_zero` meets its contract. Assumes nothing.
-use Prim.Native.Nat.{◌-◌}
-use mathlib.Core.Path.{◌≡◌, refl, sym, ◌∙◌}
-use mathlib.Core.Bool.{◌&&◌}
-use borrow.Author.Rules.{rules}
-use lib.ListN.{length, drop}
-use Rattle.lists.specs.Lists.{all}
-use Rattle.totals.specs.Left.{is_zero}
+use mathlib.Core.Path.{refl, sym, ◌∙◌}
 use Rattle.totals.proofs.LeftLaws.{clear_on, clear_end}
 use Rattle.totals.proofs.all_zero.Goals as goal
 

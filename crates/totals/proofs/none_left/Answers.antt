@@ -1,8 +1,6 @@
 -- `totals::none_left` meets its contract. Assumes nothing.
 use mathlib.Core.Path.{sym, ◌∙◌}
-use borrow.Author.Tests.{not-true, not-false}
 use Rattle.totals.proofs.LeftLaws.{count_left, mass_left}
-use borrow.Author.Rules.{rules}
 use Rattle.totals.proofs.none_left.Goals as goal
 
 pub returns-then-not-all_zero : goal.returns-then-not-all_zero

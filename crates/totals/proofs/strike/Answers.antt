@@ -1,11 +1,7 @@
 -- `totals::strike` meets its contract. Assumes nothing.
-use Prim.Native.Nat.{◌-◌, ◌<◌, ◌≤◌}
-use mathlib.Core.Path.{◌≡◌}
 use native.Mathlib.Omega.{arith}
 use borrow.Author.Rules.{rules}
-use lib.ListN.{length}
-use Rattle.format.specs.Structure.{isotope_of}
-use Rattle.totals.proofs.StrikeLaws.{Striking, strike_starts, strike_goes, strike_done, strike_ends}
+use Rattle.totals.proofs.StrikeLaws.{strike_starts, strike_goes, strike_done, strike_ends}
 use Rattle.totals.proofs.strike.Goals as goal
 
 pub loop-place-init : goal.loop-place-init

@@ -1,11 +1,9 @@
 -- `totals::strike` meets its contract. Assumes nothing.
 use Prim.Native.Nat.{◌-◌, ◌<◌, ◌≤◌}
 use mathlib.Core.Path.{◌≡◌}
-use native.Mathlib.Omega.{arith}
-use borrow.Author.Rules.{rules}
 use lib.ListN.{length}
 use Rattle.format.specs.Structure.{isotope_of}
-use Rattle.totals.proofs.StrikeLaws.{Striking, strike_starts, strike_goes, strike_done, strike_ends}
+use Rattle.totals.proofs.StrikeLaws.{Striking}
 use Rattle.totals.proofs.strike.Given as goal
 
 abbrev pub invariant-loop-place : goal.invariant-loop-place

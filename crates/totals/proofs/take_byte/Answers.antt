@@ -2,7 +2,6 @@
 use Rattle.totals.specs.Left.{left_of}
 use Rattle.totals.proofs.AnswerLaws.{byte_still, byte_taken, byte_short}
 use borrow.Author.Rules.{rules}
-use borrow.Author.Tests.{not-true, not-false}
 use Rattle.totals.proofs.take_byte.Goals as goal
 
 pub returns-then-not-take_entry : goal.returns-then-not-take_entry

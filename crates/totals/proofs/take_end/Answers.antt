@@ -2,7 +2,6 @@
 use Rattle.totals.specs.Left.{left_of}
 use Rattle.totals.proofs.AnswerLaws.{end_unshaped, end_nothing, end_taken, end_short}
 use native.Mathlib.Omega.{arith}
-use borrow.Author.Rules.{rules}
 use Rattle.totals.proofs.take_end.Goals as goal
 
 pub returns-then-take_entry : goal.returns-then-take_entry

@@ -1,7 +1,6 @@
 -- `totals::take_entry` meets its contract. Assumes nothing.
 use Rattle.symbols.specs.ShownSymbols.{sym_of_mark}
 use Rattle.totals.proofs.AnswerLaws.{entry_taken}
-use borrow.Author.Rules.{rules}
 use Rattle.totals.proofs.take_entry.Goals as goal
 
 pub returns : goal.returns

@@ -1,13 +1,11 @@
 -- `totals::take_formula` meets its contract. Assumes nothing.
 use Prim.Native.Nat.{◌-◌}
 use mathlib.Core.Path.{◌≡◌}
-use borrow.Author.Rules.{rules}
 use lib.ListN.{length, drop}
 use Rattle.format.specs.Formula.{between, frun}
 use Rattle.formula.specs.Machine.{Sized}
 use Rattle.totals.specs.Left.{left_of}
 use Rattle.totals.specs.Taking.{Owing}
-use Rattle.totals.proofs.AnswerLaws.{owing_goes, owing_sized, owing_short, owing_ends, lead_answers, lead_failed}
 use Rattle.totals.proofs.take_formula.Given as goal
 
 abbrev pub invariant-loop-i : goal.invariant-loop-i

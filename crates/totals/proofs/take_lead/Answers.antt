@@ -1,15 +1,8 @@
 -- `totals::take_lead` meets its contract. Assumes nothing.
-use Prim.Native.Nat.{◌-◌}
-use mathlib.Core.Path.{◌≡◌}
 use native.Mathlib.Omega.{arith}
 use borrow.Author.Rules.{rules}
-use borrow.Author.Tests.{not-true, not-false}
-use lib.ListN.{length}
-use Rattle.format.specs.Formula.{formula_shape}
-use Rattle.formula.specs.declared.State.TheVariants.{Between}
 use Rattle.formula.proofs.EntryLaws.{entry_told}
 use Rattle.totals.specs.Left.{left_of}
-use Rattle.totals.specs.Taking.{Owing}
 use Rattle.totals.proofs.AnswerLaws.{lead_starts, lead_goes, lead_short}
 use Rattle.totals.proofs.take_lead.Goals as goal
 

@@ -1,10 +1,7 @@
 -- `totals::tally` meets its contract. Assumes nothing.
-use Prim.Native.Nat.{ℕ, ◌-◌, ◌≤◌}
-use mathlib.Core.Path.{◌≡◌, ◌∙◌}
+use mathlib.Core.Path.{◌∙◌}
 use native.Mathlib.Omega.{arith}
 use borrow.Author.Rules.{rules}
-use lib.ListN.{length, get_or}
-use Rattle.totals.specs.Left.{left_of, Tallied}
 use Rattle.totals.proofs.TallyLaws.{tally_starts, tally_goes, tally_ends}
 use Rattle.totals.proofs.tally.Goals as goal
 

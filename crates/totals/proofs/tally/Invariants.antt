@@ -1,11 +1,8 @@
 -- `totals::tally` meets its contract. Assumes nothing.
 use Prim.Native.Nat.{ℕ, ◌-◌, ◌≤◌}
-use mathlib.Core.Path.{◌≡◌, ◌∙◌}
-use native.Mathlib.Omega.{arith}
-use borrow.Author.Rules.{rules}
+use mathlib.Core.Path.{◌≡◌}
 use lib.ListN.{length, get_or}
 use Rattle.totals.specs.Left.{left_of, Tallied}
-use Rattle.totals.proofs.TallyLaws.{tally_starts, tally_goes, tally_ends}
 use Rattle.totals.proofs.tally.Given as goal
 
 abbrev pub invariant-loop-i : goal.invariant-loop-i

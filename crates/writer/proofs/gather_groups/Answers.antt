@@ -1,7 +1,6 @@
 -- `writer::gather_groups` meets its contract. Assumes nothing.
 use native.Mathlib.Omega.{arith}
 use Rattle.writer.proofs.SoundLaws.{groups_gathered}
-use borrow.Author.Rules.{rules}
 use Rattle.writer.proofs.gather_groups.Goals as goal
 
 pub returns : goal.returns

@@ -1,7 +1,5 @@
 -- `writer::write` meets its contract. Assumes nothing.
-use borrow.Author.Tests.{not-true, not-false}
 use Rattle.writer.proofs.AnswerLaws.{short_table, not_sound, is_written}
-use borrow.Author.Rules.{rules}
 use Rattle.writer.proofs.write.Goals as goal
 
 pub returns-then-table-lt-SIZE : goal.returns-then-table-lt-SIZE

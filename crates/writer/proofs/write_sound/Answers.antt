@@ -2,7 +2,6 @@
 use Prim.Native.Nat.{◌-◌}
 use native.Mathlib.Omega.{arith}
 use Rattle.writer.proofs.AnswerLaws.{too_long, too_short, wrote, copied}
-use borrow.Author.Rules.{rules}
 use Rattle.writer.proofs.write_sound.Goals as goal
 
 pub returns-then-size-gt-BLOCK : goal.returns-then-size-gt-BLOCK

@@ -1,16 +1,8 @@
 -- `coordinates::fill::fill` meets its contract. Assumes nothing.
-use Prim.Native.Nat.{◌-◌, ◌≤◌}
-use mathlib.Core.Path.{◌≡◌, refl, sym, ◌∙◌}
-use mathlib.Core.List.{◌++◌}
+use mathlib.Core.Path.{refl, sym, ◌∙◌}
 use native.Mathlib.Omega.{arith}
-use lib.ListN.{length, drop}
-use borrow.Author.Tests.{not-true, not-false}
-use Rattle.factor.specs.ShownFactors.{factor_of}
-use Rattle.coordinates.specs.KeptRows.{rows_in}
-use Rattle.coordinates.specs.Filled.{scaled_table}
 use Rattle.coordinates.proofs.ClearLaws.{fronted_short}
 use Rattle.coordinates.proofs.FillLaws.{fill_start, fill_more, fill_beyond, fill_end}
-use borrow.Author.Rules.{rules}
 use Rattle.coordinates.proofs.fill.fill.Goals as goal
 
 pub returns-then-positions-lt-SIZE : goal.returns-then-positions-lt-SIZE

@@ -4,7 +4,6 @@ use mathlib.Core.Path.{◌≡◌, sym, ◌∙◌}
 use mathlib.Core.Bool.{true}
 use native.Mathlib.Omega.{arith}
 use lib.ListN.{length, length-set}
-use borrow.Author.Tests.{not-true, not-false}
 use Rattle.coordinates.specs.KeptRows.{has_row, modest}
 use Rattle.coordinates.proofs.KeptLaws.{row_told, modest_told, kept_roomless, kept_immodest, kept_written}
 use borrow.Author.Rules.{rules}

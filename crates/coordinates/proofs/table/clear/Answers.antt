@@ -1,6 +1,5 @@
 -- `coordinates::table::clear` meets its contract. Assumes nothing.
 use Rattle.coordinates.proofs.ClearLaws.{fronted_short, cleared}
-use borrow.Author.Rules.{rules}
 use Rattle.coordinates.proofs.table.clear.Goals as goal
 
 pub returns-then-positions-lt-SIZE : goal.returns-then-positions-lt-SIZE

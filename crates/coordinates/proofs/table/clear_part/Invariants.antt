@@ -1,12 +1,9 @@
 -- `coordinates::table::clear_part` meets its contract. Assumes nothing.
 use Prim.Native.Nat.{◌-◌, ◌≤◌}
-use mathlib.Core.Path.{◌≡◌, refl}
+use mathlib.Core.Path.{◌≡◌}
 use mathlib.Core.List.{◌++◌}
-use native.Mathlib.Omega.{arith}
 use lib.ListN.{length, drop}
-use borrow.Author.Rules.{rules}
 use Rattle.format.specs.Table.{noughts}
-use Rattle.coordinates.proofs.ClearLaws.{noughts_start, noughts_more, set_length, noughts_end}
 use Rattle.coordinates.proofs.table.clear_part.Given as goal
 
 abbrev pub invariant-loop-i : goal.invariant-loop-i

@@ -1,6 +1,5 @@
 -- `coordinates::table::has_place` meets its contract. Assumes nothing.
 use Rattle.coordinates.proofs.PlaceLaws.{place_low, place_high, place_by}
-use borrow.Author.Rules.{rules}
 use Rattle.coordinates.proofs.table.has_place.Goals as goal
 
 pub returns-then-atom-lt1 : goal.returns-then-atom-lt1

@@ -3,10 +3,8 @@ use mathlib.Core.Path.{◌≡◌, sym, ◌∙◌}
 use mathlib.Core.Bool.{true}
 use native.Mathlib.Omega.{arith}
 use lib.ListN.{length}
-use borrow.Author.Tests.{not-true, not-false}
 use Rattle.coordinates.specs.ShownPositions.{has_place}
 use Rattle.coordinates.proofs.PlaceLaws.{place_told, place_room, no_place, read_at, read_not}
-use borrow.Author.Rules.{rules}
 use Rattle.coordinates.proofs.table.position.Goals as goal
 
 pub returns-then-not-has_place : goal.returns-then-not-has_place

@@ -2,7 +2,6 @@
 use native.Mathlib.Omega.{arith}
 use lib.ListN.{length-set}
 use Rattle.coordinates.proofs.PlaceLaws.{four_put}
-use borrow.Author.Rules.{rules}
 use Rattle.coordinates.proofs.table.put.Goals as goal
 
 pub bounds-positions-at-2 : goal.bounds-positions-at-2

@@ -1,12 +1,8 @@
 -- `filling::keyed::fill_bonds` meets its contract. Assumes nothing.
 use Prim.Native.Nat.{◌-◌, ◌≤◌}
 use mathlib.Core.Path.{◌≡◌}
-use native.Mathlib.Omega.{arith}
 use lib.ListN.{length}
-use borrow.Author.Rules.{rules}
 use Rattle.filling.specs.Filled.{bond_out, copied}
-use Rattle.format.proofs.PlaceLaws.{bond_place}
-use Rattle.filling.proofs.FillLaws.{bonds_none, bonds_more, copied_all, as_it_was, filled_where}
 use Rattle.filling.proofs.keyed.fill_bonds.Given as goal
 
 abbrev pub invariant-loop-i : goal.invariant-loop-i

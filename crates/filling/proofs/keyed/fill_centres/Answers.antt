@@ -1,10 +1,5 @@
 -- `filling::keyed::fill_centres` meets its contract. Assumes nothing.
-use Prim.Native.Nat.{◌-◌, ◌≤◌}
-use mathlib.Core.Path.{◌≡◌}
 use native.Mathlib.Omega.{arith}
-use lib.ListN.{length}
-use borrow.Author.Rules.{rules}
-use Rattle.filling.specs.Filled.{centre_out, copied}
 use Rattle.format.proofs.PlaceLaws.{centre_place}
 use Rattle.filling.proofs.FillLaws.{centres_none, centres_more, copied_all, as_it_was, filled_where}
 use Rattle.filling.proofs.keyed.fill_centres.Goals as goal

@@ -1,12 +1,8 @@
 -- `filling::keyed::fill_pairs` meets its contract. Assumes nothing.
 use Prim.Native.Nat.{◌-◌, ◌≤◌}
 use mathlib.Core.Path.{◌≡◌}
-use native.Mathlib.Omega.{arith}
 use lib.ListN.{length}
-use borrow.Author.Rules.{rules}
 use Rattle.filling.specs.Filled.{pair_out, copied}
-use Rattle.format.proofs.PlaceLaws.{pair_place}
-use Rattle.filling.proofs.FillLaws.{pairs_none, pairs_more, copied_all, as_it_was, filled_where}
 use Rattle.filling.proofs.keyed.fill_pairs.Given as goal
 
 abbrev pub invariant-loop-i : goal.invariant-loop-i

@@ -1,6 +1,5 @@
 -- `filling::records::fill_atoms` meets its contract. Assumes nothing.
 use native.Mathlib.Omega.{arith}
-use borrow.Author.Rules.{rules}
 use Rattle.filling.proofs.FillLaws.{as_it_was, filled_where}
 use Rattle.filling.proofs.records.fill_atoms.Goals as goal
 

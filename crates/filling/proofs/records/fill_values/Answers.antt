@@ -1,10 +1,5 @@
 -- `filling::records::fill_values` meets its contract. Assumes nothing.
-use Prim.Native.Nat.{◌-◌, ◌≤◌}
-use mathlib.Core.Path.{◌≡◌}
 use native.Mathlib.Omega.{arith}
-use lib.ListN.{length}
-use borrow.Author.Rules.{rules}
-use Rattle.filling.specs.Filled.{value_out, copied}
 use Rattle.format.proofs.PlaceLaws.{charge_place}
 use Rattle.filling.proofs.FillLaws.{copied_all, as_it_was, filled_where}
 use Rattle.filling.proofs.AtomLaws.{values_none, values_more}

@@ -2,7 +2,6 @@
 use native.Mathlib.Omega.{arith}
 use mathlib.Core.Path.{sym}
 use lib.ListN.{get_or-eq_default}
-use borrow.Author.Rules.{rules}
 use Rattle.filling.proofs.records.number_in.Goals as goal
 
 pub overflow_cast-member : goal.overflow_cast-member

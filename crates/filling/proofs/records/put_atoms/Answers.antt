@@ -1,10 +1,5 @@
 -- `filling::records::put_atoms` meets its contract. Assumes nothing.
-use Prim.Native.Nat.{◌-◌, ◌≤◌}
-use mathlib.Core.Path.{◌≡◌}
 use native.Mathlib.Omega.{arith}
-use lib.ListN.{length}
-use borrow.Author.Rules.{rules}
-use Rattle.filling.specs.Filled.{atoms_out}
 use Rattle.format.proofs.PlaceLaws.{atom_place_lem}
 use Rattle.filling.proofs.AtomLaws.{atoms_none, atoms_more, atoms_all}
 use Rattle.filling.proofs.records.put_atoms.Goals as goal

@@ -2,7 +2,6 @@
 use Prim.Native.Nat.{◌-◌}
 use native.Mathlib.Omega.{arith}
 use Rattle.filling.proofs.AtomLaws.{minus_fits, minus_stored, plus_placed}
-use borrow.Author.Rules.{rules}
 use Rattle.filling.proofs.records.put_value.Goals as goal
 
 pub overflow_sub-part-then-code-lt100 : goal.overflow_sub-part-then-code-lt100

@@ -1,11 +1,7 @@
 -- `gather::runs::atom_run` meets its contract. Assumes nothing.
-use Prim.Native.Nat.{◌-◌}
-use mathlib.Core.Path.{◌≡◌, sym, ◌∙◌}
+use mathlib.Core.Path.{sym, ◌∙◌}
 use native.Mathlib.Omega.{arith}
-use borrow.Author.Rules.{rules}
-use lib.ListN.{length}
 use Rattle.quick.proofs.RowLaws.{atom_told}
-use Rattle.gather.specs.Runs.{AtomsRan}
 use Rattle.gather.proofs.TurnLaws.{part_long, put_long}
 use Rattle.gather.proofs.RunLaws.{atoms_start, atoms_more}
 use Rattle.gather.proofs.runs.atom_run.Goals as goal

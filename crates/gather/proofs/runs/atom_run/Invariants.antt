@@ -1,13 +1,8 @@
 -- `gather::runs::atom_run` meets its contract. Assumes nothing.
 use Prim.Native.Nat.{◌-◌}
-use mathlib.Core.Path.{◌≡◌, sym, ◌∙◌}
-use native.Mathlib.Omega.{arith}
-use borrow.Author.Rules.{rules}
+use mathlib.Core.Path.{◌≡◌}
 use lib.ListN.{length}
-use Rattle.quick.proofs.RowLaws.{atom_told}
 use Rattle.gather.specs.Runs.{AtomsRan}
-use Rattle.gather.proofs.TurnLaws.{part_long, put_long}
-use Rattle.gather.proofs.RunLaws.{atoms_start, atoms_more}
 use Rattle.gather.proofs.runs.atom_run.Given as goal
 
 abbrev pub invariant-loop-count : goal.invariant-loop-count

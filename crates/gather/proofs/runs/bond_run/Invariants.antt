@@ -1,13 +1,8 @@
 -- `gather::runs::bond_run` meets its contract. Assumes nothing.
 use Prim.Native.Nat.{◌-◌, ◌≤◌}
-use mathlib.Core.Path.{◌≡◌, sym, ◌∙◌}
-use native.Mathlib.Omega.{arith}
-use borrow.Author.Rules.{rules}
+use mathlib.Core.Path.{◌≡◌}
 use lib.ListN.{length}
-use Rattle.quick.specs.Quick.{BondIs}
-use Rattle.quick.proofs.RowLaws.{bond_told}
 use Rattle.gather.specs.Runs.{BondsRan}
-use Rattle.gather.proofs.RunLaws.{bonds_start, bonds_more, bonds_long, bonds_put, bonds_stay}
 use Rattle.gather.proofs.runs.bond_run.Given as goal
 
 abbrev pub invariant-loop-place : goal.invariant-loop-place

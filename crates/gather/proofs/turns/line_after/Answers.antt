@@ -3,7 +3,6 @@ use Rattle.format.specs.Bytes.{fields}
 use Rattle.format.specs.Labels.{Bonds, Charges, Radicals, Centres, Pairs}
 use Rattle.gather.proofs.ListLineLaws.{own_code, own_last}
 use Rattle.gather.proofs.TurnLaws.{atoms_gather, rows_gather}
-use borrow.Author.Rules.{rules}
 use Rattle.gather.proofs.turns.line_after.Goals as goal
 
 pub returns-in-6 : goal.returns-in-6

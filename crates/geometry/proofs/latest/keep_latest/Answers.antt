@@ -1,6 +1,5 @@
 -- `geometry::latest::keep_latest` meets its contract. Assumes nothing.
 use Rattle.geometry.proofs.StoreLaws.{latest_other, latest_none, latest_kept}
-use Rattle.std.proofs.Common.{rules}
 use Rattle.geometry.proofs.latest.keep_latest.Goals as goal
 
 pub returns-then-region-ne-GEOMETRY : goal.returns-then-region-ne-GEOMETRY

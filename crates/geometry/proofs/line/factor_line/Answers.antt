@@ -1,6 +1,5 @@
 -- `geometry::line::factor_line` meets its contract. Assumes nothing.
 use Rattle.geometry.proofs.LineLaws.{factor_wrong, factor_kept}
-use Rattle.std.proofs.Common.{rules}
 use Rattle.geometry.proofs.line.factor_line.Goals as goal
 
 pub returns-in-Scale : goal.returns-in-Scale

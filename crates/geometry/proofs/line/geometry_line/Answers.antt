@@ -1,6 +1,5 @@
 -- `geometry::line::geometry_line` meets its contract. Assumes nothing.
 use Rattle.geometry.proofs.LineLaws.{line_other, line_by, code_greatest, code_factor, code_rows}
-use Rattle.std.proofs.Common.{rules}
 use Rattle.geometry.proofs.line.geometry_line.Goals as goal
 
 pub returns-then-region-ne-GEOMETRY : goal.returns-then-region-ne-GEOMETRY

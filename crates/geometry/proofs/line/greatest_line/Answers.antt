@@ -1,7 +1,6 @@
 -- `geometry::line::greatest_line` meets its contract. Assumes nothing.
 use Rattle.rows.proofs.PartLaws.{shows_value, shows_wrong}
 use Rattle.geometry.proofs.LineLaws.{greatest_wrong, greatest_kept}
-use Rattle.std.proofs.Common.{rules}
 use Rattle.geometry.proofs.line.greatest_line.Goals as goal
 
 pub returns-in_default : goal.returns-in_default

@@ -1,5 +1,5 @@
 -- `geometry::line::row_line` meets its contract. Assumes nothing.
-use Rattle.std.proofs.Common.{◌≡◌, ℕ, false, List, sym, ◌∙◌, arith, rules}
+use Rattle.std.proofs.Common.{◌≡◌, false, sym, ◌∙◌, arith}
 use Rattle.lists.specs.Lists.{is_nil}
 use Rattle.format.specs.Bytes.{fields}
 use Rattle.format.specs.Coordinates.{xyz_shape}

@@ -1,6 +1,5 @@
 -- `geometry::put::largest_by` meets its contract. Assumes nothing.
 use Rattle.geometry.proofs.CellLaws.{largest_by_lem}
-use Rattle.std.proofs.Common.{rules}
 use Rattle.geometry.proofs.put.largest_by.Goals as goal
 
 pub returns : goal.returns

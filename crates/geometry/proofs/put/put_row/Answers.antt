@@ -1,5 +1,5 @@
 -- `geometry::put::put_row` meets its contract. Assumes nothing.
-use Rattle.std.proofs.Common.{arith, length-set, rules}
+use Rattle.std.proofs.Common.{arith, length-set}
 use Rattle.geometry.proofs.CellLaws.{put_is}
 use Rattle.geometry.proofs.put.put_row.Goals as goal
 

@@ -1,6 +1,5 @@
 -- `geometry::put::size_of` meets its contract. Assumes nothing.
 use Rattle.geometry.proofs.CellLaws.{size_below, size_above}
-use Rattle.std.proofs.Common.{rules}
 use Rattle.geometry.proofs.put.size_of.Goals as goal
 
 pub returns-then-lifted-lt-LIFT : goal.returns-then-lifted-lt-LIFT

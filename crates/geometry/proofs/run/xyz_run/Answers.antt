@@ -1,8 +1,7 @@
 -- `geometry::run::xyz_run` meets its contract. Assumes nothing.
-use Rattle.std.proofs.Common.{◌≡◌, ◌-◌, length, arith, rules}
+use Rattle.std.proofs.Common.{arith}
 use Rattle.quick.specs.Quick.{XyzAt}
 use Rattle.quick.proofs.RowLaws.{xyz_told}
-use Rattle.geometry.specs.XyzRuns.{XyzRan}
 use Rattle.geometry.proofs.RunLaws.{xyz_start, xyz_more}
 use Rattle.geometry.proofs.run.xyz_run.Goals as goal
 

@@ -1,6 +1,5 @@
 -- `geometry::sizes::exceeds` meets its contract. Assumes nothing.
 use Rattle.geometry.proofs.CellLaws.{sizes_other, sizes_told}
-use Rattle.std.proofs.Common.{rules}
 use Rattle.geometry.proofs.sizes.exceeds.Goals as goal
 
 pub returns-then-region-ne-GEOMETRY : goal.returns-then-region-ne-GEOMETRY

@@ -2,7 +2,6 @@
 use native.Mathlib.Omega.{arith}
 use Rattle.gather.specs.Progress.{Counted, Within}
 use Rattle.header.proofs.GuardLaws.{tells_no, tells_yes, bounds_told}
-use borrow.Author.Rules.{rules}
 use Rattle.lists.proofs.Bools.{not_of_false, not_of_true}
 use Rattle.header.proofs.guard.is_bounded.Goals as goal
 

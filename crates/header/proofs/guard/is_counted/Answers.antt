@@ -1,7 +1,6 @@
 -- `header::guard::is_counted` meets its contract. Assumes nothing.
 use native.Mathlib.Omega.{arith}
 use Rattle.header.proofs.GuardLaws.{counts_told}
-use borrow.Author.Rules.{rules}
 use Rattle.header.proofs.guard.is_counted.Goals as goal
 
 pub returns : goal.returns

@@ -1,7 +1,6 @@
 -- `header::guard::lies_in` meets its contract. Assumes nothing.
 use native.Mathlib.Omega.{arith}
 use Rattle.header.proofs.GuardLaws.{part_told}
-use borrow.Author.Rules.{rules}
 use Rattle.header.proofs.guard.lies_in.Goals as goal
 
 pub returns : goal.returns

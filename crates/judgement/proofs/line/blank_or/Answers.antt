@@ -1,7 +1,6 @@
 -- `judgement::line::blank_or` meets its contract. Assumes nothing.
 use mathlib.Core.Path.{refl}
 use Rattle.judgement.proofs.LineTurnLaws.{go_shown, stop_shown, blank_good, blank_bad}
-use borrow.Author.Rules.{rules}
 use Rattle.judgement.proofs.line.blank_or.Goals as goal
 
 pub returns-then-blank : goal.returns-then-blank

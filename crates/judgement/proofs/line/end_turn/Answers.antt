@@ -1,13 +1,11 @@
 -- `judgement::line::end_turn` meets its contract. Assumes nothing.
 use mathlib.Core.Path.{sym, ◌∙◌}
-use borrow.Author.Tests.{not-true, not-false}
 use Rattle.format.specs.Bytes.{fields}
 use Rattle.gather.specs.Progress.{part_of}
 use Rattle.gather.proofs.ListLineLaws.{turn_shown}
 use Rattle.judgement.proofs.ValueLaws.{fields_blank}
 use Rattle.judgement.proofs.LineTurnLaws.{stop_shown}
-use Rattle.judgement.proofs.EndTurnLaws.{some_of, end_lacking, end_atomless, end_valued, end_unanswered, end_twice, end_later}
-use borrow.Author.Rules.{rules}
+use Rattle.judgement.proofs.EndTurnLaws.{end_lacking, end_atomless, end_valued, end_unanswered, end_twice, end_later}
 use Rattle.judgement.proofs.line.end_turn.Goals as goal
 
 pub returns-then-lacking : goal.returns-then-lacking

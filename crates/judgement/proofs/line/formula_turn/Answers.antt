@@ -1,7 +1,6 @@
 -- `judgement::line::formula_turn` meets its contract. Assumes nothing.
 use mathlib.Core.Path.{refl}
 use Rattle.judgement.proofs.LineTurnLaws.{go_shown, stop_shown, formula_refused, formula_taken, formula_shown, formula_bounded}
-use borrow.Author.Rules.{rules}
 use Rattle.judgement.proofs.line.formula_turn.Goals as goal
 
 pub returns-then-number-ne0 : goal.returns-then-number-ne0

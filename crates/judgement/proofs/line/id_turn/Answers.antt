@@ -1,7 +1,6 @@
 -- `judgement::line::id_turn` meets its contract. Assumes nothing.
 use mathlib.Core.Path.{refl}
 use Rattle.judgement.proofs.LineTurnLaws.{go_shown, stop_shown, id_good_lem, id_bad, id_bounded, id_shown}
-use borrow.Author.Rules.{rules}
 use Rattle.judgement.proofs.line.id_turn.Goals as goal
 
 pub returns-in-Value : goal.returns-in-Value

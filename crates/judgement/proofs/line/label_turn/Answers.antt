@@ -2,7 +2,6 @@
 use native.Mathlib.Omega.{arith}
 use Rattle.gather.proofs.TurnLaws.{put_long}
 use Rattle.judgement.proofs.LabelTurnLaws.{label_bounded, label_misplaced, label_over, label_value}
-use borrow.Author.Rules.{rules}
 use Rattle.judgement.proofs.line.label_turn.Goals as goal
 
 pub returns-then-out_of_order : goal.returns-then-out_of_order

@@ -1,7 +1,6 @@
 -- `judgement::line::line_step` meets its contract. Assumes nothing.
 use native.Mathlib.Omega.{arith}
 use Rattle.judgement.proofs.LabelTurnLaws.{plain_first, unparted_first, label_first, plain_step, unparted_step, label_step, value_low}
-use borrow.Author.Rules.{rules}
 use Rattle.judgement.proofs.line.line_step.Goals as goal
 
 pub returns-then-p-eq0 : goal.returns-then-p-eq0

@@ -3,7 +3,6 @@ use borrow.Author.Tests.{not-true, not-false}
 use Rattle.gather.proofs.ListLineLaws.{turn_shown}
 use Rattle.judgement.proofs.LineTurnLaws.{stop_shown}
 use Rattle.judgement.proofs.EndTurnLaws.{totals_untested, totals_differ, totals_agree, totals_told}
-use borrow.Author.Rules.{rules}
 use Rattle.judgement.proofs.line.totals_end.Goals as goal
 
 pub returns-then-not-u : goal.returns-then-not-u

@@ -1,10 +1,9 @@
 -- `judgement::line::value_turn` meets its contract. Assumes nothing.
 use Rattle.std.specs.Prelude.{◌≡◌, ◌≤◌, ◌<◌, ◌⊎◌}
 use native.Mathlib.Omega.{arith}
-use mathlib.Core.Logic.{inl, inr, ⊎_elim}
+use mathlib.Core.Logic.{inl, inr}
 use Rattle.judgement.proofs.CodeLaws.{list_code, geometry_code, no_geometry_lem, outside}
 use Rattle.judgement.proofs.StepTurnLaws.{value_skipped, value_prose, value_version, value_formula, value_id, value_end, value_yes, value_geometry, value_list}
-use borrow.Author.Rules.{rules}
 use Rattle.judgement.proofs.line.value_turn.Goals as goal
 use Rattle.judgement.proofs.line.value_turn.Goals.{in-1-1, in_default+else-running-lt3+then-running-lt5, in_default, in_default-2, in_default-running-via-then-running-lt12, in_default-running-via-else-running-lt12+else-running-lt17}
 
@@ -14,7 +13,7 @@ returns-in-0 c = value_skipped c.args.block.now c.args.at c.args.from c.args.end
 pub returns-in-1 : goal.returns-in-1
 returns-in-1 c =
     let told : (c.args.p.running ≡ 1) ⊎ ((3 ≤ c.args.p.running) × (c.args.p.running < 5)) =
-        elim c.in-1-1.branch [ in-1-1 w ↦ inl (omega arith) | in_default+else-running-lt3+then-running-lt5 w ↦ inr (omega arith, omega arith) ] in
+    elim c.in-1-1.branch [ in-1-1 w ↦ inl (omega arith) | in_default+else-running-lt3+then-running-lt5 w ↦ inr (omega arith, omega arith) ] in
     value_prose c.args.block.now c.args.at c.args.from c.args.end c.args.u c.args.p c.args.scratch.now c.requires.0 c.requires.1 c.requires.2 c.requires.3 c.text_turn.result c.text_turn.ensures told
 
 pub returns-in-2 : goal.returns-in-2
@@ -39,8 +38,8 @@ pub returns-in_default-running : goal.returns-in_default-running
 returns-in_default-running c =
     let o : (c.args.p.running ≡ 3 → ⊥) × (c.args.p.running ≡ 4 → ⊥) = elim c.if-running-lt3.branch [ in_default w ↦ outside _ (inl (omega arith)) | in_default-2 w ↦ outside _ (inr (omega arith)) ] in
     let g : 14 ≤ c.args.p.running → ⊥ =
-        elim c.in_default-running.branch [
-          in_default-running-via-then-running-lt12 w ↦ no_geometry_lem _ c.requires.1.code (inl (omega arith)) (λ e. omega arith)
-        | in_default-running-via-else-running-lt12+else-running-lt17 w ↦ no_geometry_lem _ c.requires.1.code (inr (omega arith)) (λ e. omega arith)
-        ] in
+    elim c.in_default-running.branch [
+      | in_default-running-via-then-running-lt12 w ↦ no_geometry_lem _ c.requires.1.code (inl (omega arith)) (λ e. omega arith)
+      | in_default-running-via-else-running-lt12+else-running-lt17 w ↦ no_geometry_lem _ c.requires.1.code (inr (omega arith)) (λ e. omega arith)
+    ] in
     value_list c.args.block.now c.args.at c.args.from c.args.end c.args.u c.args.p c.args.scratch.now c.requires.0 c.requires.1 c.requires.2 c.requires.3 c.uncommented.result c.uncommented.ensures c.list_turn.result c.list_turn.new.scratch (list_code _ c.requires.1.code (λ e. omega arith) (λ e. omega arith) o.0 o.1 (λ e. omega arith) (λ e. omega arith) (λ e. omega arith) (λ e. omega arith) g) c.requires.4.low (c.list_turn.ensures.0, c.list_turn.ensures.1)

@@ -1,7 +1,6 @@
 -- `judgement::line::version_turn` meets its contract. Assumes nothing.
 use mathlib.Core.Path.{refl}
 use Rattle.judgement.proofs.LineTurnLaws.{go_shown, stop_shown, version_good, version_bad}
-use borrow.Author.Rules.{rules}
 use Rattle.judgement.proofs.line.version_turn.Goals as goal
 
 pub returns-then-is_version : goal.returns-then-is_version

@@ -2,7 +2,6 @@
 use mathlib.Core.Path.{sym, ◌∙◌}
 use borrow.Author.Tests.{eq-eqb, ne_eqb}
 use Rattle.judgement.proofs.SeenLaws.{lacking_is, or_fourth}
-use borrow.Author.Rules.{rules}
 use Rattle.judgement.proofs.seen.lacking.Goals as goal
 
 pub returns-then-seen-eq0 : goal.returns-then-seen-eq0

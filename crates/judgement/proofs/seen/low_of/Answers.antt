@@ -1,7 +1,6 @@
 -- `judgement::seen::low_of` meets its contract. Assumes nothing.
 use mathlib.Core.Path.{◌∙◌}
 use Rattle.judgement.proofs.SeenLaws.{known_told}
-use borrow.Author.Rules.{rules}
 use Rattle.judgement.proofs.seen.low_of.Goals as goal
 
 pub returns : goal.returns

@@ -2,7 +2,6 @@
 use mathlib.Core.Path.{◌∙◌}
 use lib.ListN.{length-set}
 use Rattle.judgement.proofs.SeenLaws.{note_none, note_higher, note_lower}
-use borrow.Author.Rules.{rules}
 use Rattle.judgement.proofs.seen.note.Goals as goal
 
 pub returns-then-code-eq0 : goal.returns-then-code-eq0

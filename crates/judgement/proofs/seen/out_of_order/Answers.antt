@@ -1,6 +1,5 @@
 -- `judgement::seen::out_of_order` meets its contract. Assumes nothing.
 use Rattle.judgement.proofs.SeenLaws.{seen_again, order_told}
-use borrow.Author.Rules.{rules}
 use Rattle.judgement.proofs.seen.out_of_order.Goals as goal
 
 pub returns-then-seen-code-ne0 : goal.returns-then-seen-code-ne0

@@ -1,6 +1,5 @@
 -- `judgement::seen::partly` meets its contract. Assumes nothing.
 use Rattle.judgement.proofs.SeenLaws.{partly_second, partly_third}
-use borrow.Author.Rules.{rules}
 use Rattle.judgement.proofs.seen.partly.Goals as goal
 
 pub returns-then-factor-greatest : goal.returns-then-factor-greatest

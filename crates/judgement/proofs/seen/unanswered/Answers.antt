@@ -1,6 +1,5 @@
 -- `judgement::seen::unanswered` meets its contract. Assumes nothing.
 use Rattle.judgement.proofs.SeenLaws.{answered, unanswered_told}
-use borrow.Author.Rules.{rules}
 use Rattle.judgement.proofs.seen.unanswered.Goals as goal
 
 pub returns-then-handed : goal.returns-then-handed

@@ -1,8 +1,6 @@
 -- `judgement::values::block_id` meets its contract. Assumes nothing.
 use native.Mathlib.Omega.{arith}
-use borrow.Author.Tests.{not-true, not-false}
 use Rattle.judgement.proofs.ValueLaws.{id_wrong, id_more, id_zero, id_taken}
-use borrow.Author.Rules.{rules}
 use Rattle.judgement.proofs.values.block_id.Goals as goal
 
 pub slice_bounds-number-end : goal.slice_bounds-number-end

@@ -1,7 +1,6 @@
 -- `judgement::values::is_only` meets its contract. Assumes nothing.
 use native.Mathlib.Omega.{arith}
 use Rattle.judgement.proofs.ValueLaws.{only_short, only_first, only_second, only_third, only_alone}
-use borrow.Author.Rules.{rules}
 use Rattle.judgement.proofs.values.is_only.Goals as goal
 
 pub returns-then-to-from-ne3 : goal.returns-then-to-from-ne3

@@ -2,7 +2,6 @@
 use mathlib.Core.Path.{◌∙◌}
 use Rattle.format.specs.Bytes.{fields}
 use Rattle.judgement.proofs.ValueLaws.{version_only}
-use borrow.Author.Rules.{rules}
 use Rattle.judgement.proofs.values.is_version.Goals as goal
 
 pub returns : goal.returns

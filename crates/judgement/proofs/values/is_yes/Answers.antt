@@ -2,7 +2,6 @@
 use mathlib.Core.Path.{◌∙◌}
 use Rattle.format.specs.Bytes.{fields}
 use Rattle.judgement.proofs.ValueLaws.{yes_only}
-use borrow.Author.Rules.{rules}
 use Rattle.judgement.proofs.values.is_yes.Goals as goal
 
 pub returns : goal.returns

@@ -1,6 +1,5 @@
 -- `judgement::xyz::geometry_end` meets its contract. Assumes nothing.
 use Rattle.judgement.proofs.XyzTurnLaws.{end_partly, end_exceeds, end_passes}
-use borrow.Author.Rules.{rules}
 use Rattle.judgement.proofs.xyz.geometry_end.Goals as goal
 
 pub returns-then-partly : goal.returns-then-partly

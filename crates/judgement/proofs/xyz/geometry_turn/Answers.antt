@@ -1,7 +1,6 @@
 -- `judgement::xyz::geometry_turn` meets its contract. Assumes nothing.
 use mathlib.Core.Path.{sym, ap}
 use Rattle.judgement.proofs.XyzTurnLaws.{turn_noted, line_noted}
-use borrow.Author.Rules.{rules}
 use Rattle.judgement.proofs.xyz.geometry_turn.Goals as goal
 
 pub returns-in-Kept : goal.returns-in-Kept

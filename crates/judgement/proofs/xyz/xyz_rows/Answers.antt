@@ -1,6 +1,5 @@
 -- `judgement::xyz::xyz_rows` meets its contract. Assumes nothing.
 use Rattle.judgement.proofs.XyzTurnLaws.{rows_none, rows_placed}
-use borrow.Author.Rules.{rules}
 use Rattle.judgement.proofs.xyz.xyz_rows.Goals as goal
 
 pub returns-then-top-eq0 : goal.returns-then-top-eq0

@@ -1,10 +1,8 @@
 -- `judgement::yes::yes_turn` meets its contract. Assumes nothing.
 use mathlib.Core.Path.{refl, sym, ◌∙◌}
-use borrow.Author.Tests.{not-true, not-false}
 use Rattle.judgement.proofs.ValueLaws.{fields_blank}
 use Rattle.judgement.proofs.LineTurnLaws.{go_shown, stop_shown}
 use Rattle.judgement.proofs.YesTurnLaws.{yes_blank, yes_again, yes_other, yes_taken, yes_bounded, yes_shown}
-use borrow.Author.Rules.{rules}
 use Rattle.judgement.proofs.yes.yes_turn.Goals as goal
 
 pub returns-then-blank : goal.returns-then-blank
