@@ -1,4 +1,4 @@
-//! The proved library, as `rt staticlib host` writes it under target/ of the project's root.
+//! The proved library, as `.ci/library` writes it under target/ of the project's root.
 
 fn main() {
     let root = std::path::Path::new(env!("CARGO_MANIFEST_DIR")).join("..");

@@ -1,6 +1,6 @@
 /* Galebonnet: JCAMP-CS 3.7 blocks read, checked, written and walked. Every function here is proved to answer as its words say, for every input.
  *
- * Link with target/staticlib/libhost.a (`rt staticlib host` writes it). The library allocates nothing, has no globals, calls nothing and is reentrant.
+ * Link with target/staticlib/libhost.a (`.ci/library` writes it). The library allocates nothing, has no globals, calls nothing and is reentrant.
  *
  * A slice is a pointer and a count of elements. Where the count is 0 the pointer must still not be null (any aligned address will do). Slices that a
  * function writes to must not overlap the others.

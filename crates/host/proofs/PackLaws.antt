@@ -17,7 +17,7 @@ use Rattle.transfer.specs.Texts.{title_start, Titled}
 use Rattle.transfer.proofs.NameLaws.{title_size}
 use Rattle.writer.specs.declared.Answer.{Answer as Written}
 use Rattle.writer.specs.declared.Answer.TheVariants as W
-use Rattle.writer.specs.Answers.{shown as shownWrite}
+use Rattle.writer.specs.Answers.{shown as shown_write}
 use Rattle.host.specs.Packed.{packed_span, packed_title, packed_written}
 
 -- a reading's answer, from the variant it is, and the tables after it
@@ -29,14 +29,14 @@ module _ (x : ReadResult) (r k : Answer) (l : Lent) (h : shown_read r l ≡ x) (
   read_tables = ap (λ (y : ReadResult). y.after) (ap (λ (a : Answer). shown_read a l) (sym e) ∙ h)
 
 -- a writing's answer, from the variant it is, and the buffer after it
-module _ (x : WriteResult) (r k : Written) (b : Bytes) (h : shownWrite r b ≡ x) (e : r ≡ k) where
-  written_is : shownWrite k b ≡ x
-  written_is = ap (λ (a : Written). shownWrite a b) (sym e) ∙ h
+module _ (x : WriteResult) (r k : Written) (b : Bytes) (h : shown_write r b ≡ x) (e : r ≡ k) where
+  written_is : shown_write k b ≡ x
+  written_is = ap (λ (a : Written). shown_write a b) (sym e) ∙ h
 
-  pub written_buffer : (shownWrite k b).buffer ≡ x.buffer
+  pub written_buffer : (shown_write k b).buffer ≡ x.buffer
   written_buffer = ap (λ (y : WriteResult). y.buffer) written_is
 
-module _ (x : WriteResult) (r : Written) (n : ℕ) (b : Bytes) (h : shownWrite r b ≡ x) where
+module _ (x : WriteResult) (r : Written) (n : ℕ) (b : Bytes) (h : shown_write r b ≡ x) where
   pub count_packed : r ≡ W.Written n → n ≡ packed_written x
   count_packed e = omega (arith, ap packed_written (written_is x r (W.Written n) b h e))
 

@@ -1,12 +1,15 @@
 // The program `walk`: document 01, "Walking a transfer file". It prints for a block `B start end number place atoms bonds`, the place counted in the file, and for
-// a stray run `S start end`; `L` where there are over 65,536 bytes. The work is done by `transfer` and `reader`; this is the printing.
+// a stray run `S start end`; `L` where there are over 65,536 bytes. The work is done by `transfer` and `reader`; this is the reading and the printing. A read or a
+// write that fails ends it with that error.
 #![tactic(auto)]
 
-ghost use Rattle.std.specs.Prelude.{◌≤◌, ◌<◌, ◌≡◌, length};
+ghost use Rattle.std.specs.Prelude.{◌≤◌, ◌<◌, ◌≡◌, IfOk, length};
 
 use coordinates::table::Positions;
 use format::Table;
 use reader::Answer;
+use std::io;
+use std::io::Read;
 use transfer::walks::Walked;
 
 // Zeros for 65,536 bytes and the one more by which a longer input is told.
@@ -16,84 +19,94 @@ fn room() -> [u8; 65537]
     [0; 65537]
 }
 
+// Reads until the buffer is full or the input ends; how many bytes lie at its start.
+fn read_full<R: Read>(from: &mut R, buffer: &mut [u8]) -> io::Result<usize>
+    ensures { IfOk result (λ n. n ≤ length buffer.new) }
+{
+    let mut filled = 0;
+    while filled < buffer.len() {
+        let more = from.read(&mut buffer[filled..])?;
+        if more == 0 {
+            break;
+        }
+        filled += more;
+    }
+    Ok(filled)
+}
+
 // A number behind a space.
-fn print_behind(n: u64) {
-    io::write_all(1, &[b' ']);
-    io::print_decimal(1, n);
+fn print_behind(rt: &impl Print, n: u64) -> io::Result<()> {
+    print!(rt; " {n}")
 }
 
 // The number and the place of a reading, then the atoms and bonds of its table.
-fn print_reading(number: u32, place: usize, table: &[i32]) {
-    print_behind(number as u64);
-    print_behind(place as u64);
-    print_behind(cells::cell(table, Table::ATOM_COUNT) as u64);
-    print_behind(cells::cell(table, Table::BOND_COUNT) as u64);
-    io::write_all(1, &[b'\n']);
+fn print_reading(rt: &impl Print, number: u32, place: usize, table: &[i32]) -> io::Result<()> {
+    print_behind(rt, number as u64)?;
+    print_behind(rt, place as u64)?;
+    print_behind(rt, cells::cell(table, Table::ATOM_COUNT) as u64)?;
+    print_behind(rt, cells::cell(table, Table::BOND_COUNT) as u64)?;
+    println!(rt; "")
 }
 
 // The line of a block: "`B start end number place atoms bonds`, the place counted in the file (0 if accepted)".
-fn print_block(file: &[u8], start: usize, end: usize)
+fn print_block(rt: &impl Print, file: &[u8], start: usize, end: usize) -> io::Result<()>
     requires { (start ≤ end) × (end ≤ length file.now) × (length file.now ≤ 65536) }
 {
-    io::write_all(1, &[b'B']);
-    print_behind(start as u64);
-    print_behind(end as u64);
+    print!(rt; "B")?;
+    print_behind(rt, start as u64)?;
+    print_behind(rt, end as u64)?;
     let mut table = [0i32; Table::SIZE];
     let mut positions = [0f64; Positions::SIZE];
     let answer = reader::read(&file[start..end], &mut table, &mut positions);
     match answer {
-        Answer::Accepted => {
-            print_reading(0, 0, &table);
-        }
-        Answer::Refused(number, place) => {
-            print_reading(number, start + place, &table);
-        }
+        Answer::Accepted => print_reading(rt, 0, 0, &table),
+        Answer::Refused(number, place) => print_reading(rt, number, start + place, &table),
     }
 }
 
 // The line of a stray run: "`S start end`".
-fn print_stray(start: usize, end: usize) {
-    io::write_all(1, &[b'S']);
-    print_behind(start as u64);
-    print_behind(end as u64);
-    io::write_all(1, &[b'\n']);
+fn print_stray(rt: &impl Print, start: usize, end: usize) -> io::Result<()> {
+    print!(rt; "S")?;
+    print_behind(rt, start as u64)?;
+    print_behind(rt, end as u64)?;
+    println!(rt; "")
 }
 
 // The line of the piece from a place on, and where it ends.
-fn print_piece(file: &[u8], place: usize) -> usize
+fn print_piece(rt: &impl Print, file: &[u8], place: usize) -> io::Result<usize>
     requires { (place < length file.now) × (length file.now ≤ 65536) }
-    ensures { (place < result) × (result ≤ length file.now) }
+    ensures { IfOk result (λ end. (place < end) × (end ≤ length file.now)) }
 {
     match transfer::walks::walk(file, place) {
         Walked::Block(_, end) => {
-            print_block(file, place, end);
-            end
+            print_block(rt, file, place, end)?;
+            Ok(end)
         }
         Walked::Stray(_, end) => {
-            print_stray(place, end);
-            end
+            print_stray(rt, place, end)?;
+            Ok(end)
         }
-        Walked::Finished => file.len(),
-        Walked::Refused(_) => file.len(),
+        Walked::Finished => Ok(file.len()),
+        Walked::Refused(_) => Ok(file.len()),
     }
 }
 
 // The lines of a file, piece by piece.
-fn print_file(file: &[u8])
+fn print_file(rt: &impl Print, file: &[u8]) -> io::Result<()>
     requires { length file.now ≤ 65536 }
 {
     let mut place = 0;
     while place < file.len() {
-        place = print_piece(file, place);
+        place = print_piece(rt, file, place)?;
     }
+    Ok(())
 }
 
-fn main() {
+fn main(rt: HostRuntime) -> io::Result<()> {
     let mut bytes = room();
-    let n = io::read_full(0, &mut bytes);
+    let n = read_full(&mut rt.stdin(), &mut bytes)?;
     if 65536 < n {
-        io::write_all(1, &[b'L', b'\n']);
-        return;
+        return println!(rt; "L");
     }
-    print_file(&bytes[..n]);
+    print_file(&rt, &bytes[..n])
 }

@@ -8,16 +8,17 @@
 //! a name and a check. `hold coordinates COUNT SEED` states COUNT blocks with coordinates alone, `hold helical COUNT
 //! SEED` COUNT blocks with STEREOMOLECULE and three tables with number 13 set to ten of them, `hold fragments COUNT
 //! SEED` COUNT tables of several groups and one such block to ten of them, `hold limits` the named cases at and one
-//! over every limit. The theorems stand in a repository of their own under target/held, and the prover checks them
-//! there.
+//! over every limit. The theorems stand in a repository of their own, and the prover checks them there: in a folder
+//! among the temporary files, since the gate refuses files of the prover's anywhere in the project but in its crates.
+//! It goes when they are checked; where one is refused it stays, and is named.
 
 mod terms;
 mod theorems;
 
 use std::collections::BTreeMap;
 use std::fmt::Display;
-use std::path::{Path, PathBuf};
-use std::process::{exit, Command};
+use std::path::Path;
+use std::process::{self, exit, Command};
 use std::str::FromStr;
 use std::time::Instant;
 use std::{env, fs};
@@ -42,21 +43,23 @@ fn main() {
         _ => usage(),
     };
     let began = Instant::now();
-    let root = PathBuf::from("target/held");
-    laid_out(&root, &theorems).expect("target/held can be written");
-    let checked = Command::new("rt").args(["check", "held"]).current_dir(&root).output().expect("rt runs");
+    let root = env::temp_dir().join(format!("galebonnet-held-{}", process::id()));
+    laid_out(&root, &theorems).expect("the folder of the theorems can be written");
+    let held = root.join("crates/held");
+    let checked = Command::new("rt").arg("check").current_dir(&held).output().expect("rt runs");
     let said =
         String::from_utf8_lossy(&checked.stdout).into_owned() + &String::from_utf8_lossy(&checked.stderr);
-    let refused: Vec<&str> = said.lines().filter(|line| line.contains(": error: `case-")).collect();
+    let refused: Vec<&str> = said.lines().filter(|line| line.contains(": error: `case_")).collect();
     refused.iter().take(20).for_each(|line| println!("{}", line.chars().take(400).collect::<String>()));
     report(&theorems, &named, began.elapsed().as_secs());
     if !checked.status.success() || said.contains("logic=not-proved") {
         if refused.is_empty() {
             println!("{said}");
         }
-        println!("the definitions and the independent reader DIFFER");
+        println!("the definitions and the independent reader DIFFER: the theorems are in {}", root.display());
         exit(1);
     }
+    fs::remove_dir_all(&root).expect("the folder of the theorems can be removed");
     println!("hold: {} passed, 0 failed", theorems.len());
 }
 

@@ -39,7 +39,7 @@ fn computed(of: &'static str, numbers: Vec<u32>, statement: String) -> Theorem {
 pub fn file(theorems: &[Theorem], from: usize) -> String {
     let mut text = String::from(HEAD);
     for (index, theorem) in theorems.iter().enumerate() {
-        let name = format!("case-{}", from + index);
+        let name = format!("case_{}", from + index);
         let Theorem { statement, open, proof, .. } = theorem;
         text += &format!("\n{name} : {statement}\nunfolding {open}\n{name} = {proof}\n");
     }
@@ -49,25 +49,25 @@ pub fn file(theorems: &[Theorem], from: usize) -> String {
 const HEAD: &str = "-- Generated: the independent reader's answers, over the definitions.
 use Prim.Native.Nat.{ℕ}
 use mathlib.Core.Bool.{true, false}
-use mathlib.Core.Path.{_≡_, refl}
-use mathlib.Core.List.{List, [], _∷_}
+use mathlib.Core.Path.{◌≡◌, refl}
+use mathlib.Core.List.{List, [], ◌∷◌}
 use lib.ListN.{length, replicate, length-replicate}
 use lib.IntN.{ℤ, pos, negsuc}
 use lib.Ieee.{fin}
-use Rattle·lists.specs.Lists.{concat}
-use Rattle·format.specs.Bytes.{Bytes, bytes}
-use Rattle·format.specs.Table.{lent, readResult, readAnswer}
-use Rattle·format.specs.Writing.{writeResult}
-use Rattle·format.specs.Walking.{block, stray, piece, Found, Finished, NotWalked, pieces, walkAt, nameOf, checkOf}
-use Rattle·format.proofs.Computing.{computing}
+use Rattle.lists.specs.Lists.{concat}
+use Rattle.format.specs.Bytes.{Bytes, bytes}
+use Rattle.format.specs.Table.{lent, read_result, read_answer}
+use Rattle.format.specs.Writing.{write_result}
+use Rattle.format.specs.Walking.{block, stray, piece, Found, Finished, NotWalked, pieces, walk_at, name_of, check_of}
+use Rattle.format.proofs.Computing.{computing}
 
 -- many of one byte: shut, so that nothing counts them one by one
 unfoldable repeated : ℕ → ℕ → Bytes
 repeated n b = replicate n b
 
-repeated-length : (n b : ℕ) → length (repeated n b) ≡ n
+repeated_length : (n b : ℕ) → length (repeated n b) ≡ n
 unfolding repeated
-repeated-length n b = length-replicate n b
+repeated_length n b = length-replicate n b
 ";
 
 /// What lent tables hold before: sevens, so that what is cleared and what is untouched can be told apart.
@@ -82,7 +82,7 @@ fn block_case(of: &'static str, block: &[u8], (numbers, floats): (usize, usize))
     let before = format!("(lent {} {})", table(&after), positions(&places));
     let answer = independent::read(block, &mut after, &mut places);
     let statement = format!(
-        "readResult 103 {} {before} ≡ readAnswer {} {} (lent {} {})",
+        "read_result 103 {} {before} ≡ read_answer {} {} (lent {} {})",
         bytes(block),
         answer.number,
         answer.place,
@@ -172,7 +172,7 @@ fn table_case(of: &'static str, case: &TableCase) -> Theorem {
     let mut buffer = vec![LENT as u8; case.room];
     let written = independent::write(&case.table, &case.texts, &mut buffer);
     let statement = format!(
-        "writeResult 103 {} {} (replicate {} {LENT}) ≡ record {{ number = {}; count = {}; buffer = {} }}",
+        "write_result 103 {} {} (replicate {} {LENT}) ≡ record {{ number = {}; count = {}; buffer = {} }}",
         table(&case.table),
         bytes(&case.texts),
         case.room,
@@ -212,12 +212,12 @@ pub fn file_cases(count: usize, seed: u64) -> Vec<Theorem> {
         for place in [0, random.below(file.len() + 1), file.len(), file.len() + 1 + random.below(3)] {
             let answer = independent::walk(&file, place);
             numbers.push(if let Walked::Refused(number) = answer { number } else { 0 });
-            statement += &format!(" × (walkAt {} {place} ≡ {})", bytes(&file), walked(&answer));
+            statement += &format!(" × (walk_at {} {place} ≡ {})", bytes(&file), walked(&answer));
         }
         let block = generate::block(&mut random);
         let name = independent::name(&block, b"stand-in");
-        statement += &format!(" × (nameOf {} (bytes \"stand-in\") ≡ {})", bytes(&block), bytes(name));
-        statement += &format!(" × (checkOf 103 {} ≡ {})", bytes(&block), independent::check(&block));
+        statement += &format!(" × (name_of {} (bytes \"stand-in\") ≡ {})", bytes(&block), bytes(name));
+        statement += &format!(" × (check_of 103 {} ≡ {})", bytes(&block), independent::check(&block));
         let mut case = computed("files", numbers, statement);
         case.proof = "(refl, refl, refl, refl, refl, refl, refl)";
         cases.push(case);
@@ -230,10 +230,10 @@ fn too_long(place: usize) -> Theorem {
     let length = 16_777_217;
     let answer = independent::walk(&vec![b'#'; length], place);
     assert_eq!(answer, Walked::Refused(31));
-    let statement = format!("walkAt (repeated {length} 35) {place} ≡ {}", walked(&answer));
+    let statement = format!("walk_at (repeated {length} 35) {place} ≡ {}", walked(&answer));
     Theorem {
-        open: "walkAt",
-        proof: "rw (repeated-length 16777217 35)",
+        open: "walk_at",
+        proof: "rw (repeated_length 16777217 35)",
         ..computed("files", vec![31], statement)
     }
 }

@@ -1,0 +1,13 @@
+-- The line of a piece: where it ends, by the walk's laws. Assumes nothing.
+use Rattle.std.proofs.Common.{arith}
+use Rattle.transfer.proofs.InsideLaws.{block_inside, stray_inside}
+use Rattle.walk.proofs.print_piece.Goals as goal
+
+pub print_block-requires : goal.print_block-requires
+print_block-requires g c = let k = block_inside _ _ _ _ _ c.walk.ensures c.in-Block.is in (omega (arith, k.0), k.1, c.requires.1)
+
+pub returns-in_ok-print_block-in-Block : goal.returns-in_ok-print_block-in-Block
+returns-in_ok-print_block-in-Block g c = let k = block_inside _ _ _ _ _ c.walk.ensures c.in-Block.is in (k.0, k.1)
+
+pub returns-in_ok-print_stray-in-Stray : goal.returns-in_ok-print_stray-in-Stray
+returns-in_ok-print_stray-in-Stray g c = let k = stray_inside _ _ _ _ _ c.walk.ensures c.in-Stray.is in (k.0, k.1)
