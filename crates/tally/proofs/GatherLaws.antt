@@ -6,31 +6,30 @@ use mathlib.Core.Bool.{Bool, true, false, ◌||◌}
 use mathlib.Core.List.{List, [], ◌∷◌, map}
 use native.Mathlib.Numerals.{add-one}
 use native.Mathlib.Omega.{arith}
-use lib.ListN.{length, get_or, take, drop, get_or-eq_default}
-use lib.Seq.{length-take-le, get_or-take}
+use lib.ListN.{length, set, get_or, take, drop, get_or-eq_default}
+use lib.Seq.{length-take-le, take_all, get_or-take}
 use lib.IntN.{ℤ}
 use lib.Dec.{eqb, ltb}
 use borrow.Author.Tests.{lt-ltb, ltb-true, ltb-false, eqb-true, eqb-false, eq-eqb, ne_eqb}
-use Rattle.lists.specs.Lists.{share, all, any, count_up, rows_from}
+use Rattle.lists.specs.Lists.{share, all, any, count_up}
 use Rattle.lists.proofs.Bools.{or_left, or_right}
 use Rattle.lists.proofs.ListLaws.{all_nil, all_parts, all_both, all_at, all_imply}
 use Rattle.lists.proofs.PartLaws.{all_map}
 use Rattle.lists.proofs.IndexLaws.{map_length, map_at, count_long, count_at_lem}
-use Rattle.lists.proofs.RegionLaws.{rows_length}
-use Rattle.format.specs.Structure.{Isotope, Atom, entries_of, total, group_of, atom_ok}
-use Rattle.format.specs.Table.{count_at, atom_at, decode}
+use Rattle.format.specs.Structure.{Isotope, Atom, entries_of, total, group_of, groups_by, atom_ok}
+use Rattle.format.specs.Table.{count_at, decode}
 use Rattle.format.proofs.TotalLaws.{entries_counted}
 use Rattle.tally.specs.Ranks.{key_of, key_or, fine}
-use Rattle.tally.specs.Gathering.{in_formula, in_group, group_keys, group_counts, groups_in, Gathers, Tallied, tallied, sum_of, Shows, KeysAscend, Between, AddShows, atom_no, left, LeftShows}
+use Rattle.tally.specs.Gathering.{in_formula, in_group, group_keys, group_counts, Gathered, Gathers, atoms_in, GathersAtoms, Tallied, tallied, sum_of, Shows, KeysAscend, Between, AddShows, atom_no, atom_in, left, LeftShows}
 use Rattle.tally.proofs.KeyLaws.{atom_fine_lem, key_or_lem, key_some, key_high, key_given}
 use Rattle.tally.proofs.ShowLaws.{sum_nil, shows_none, shows_count}
 use Rattle.tally.proofs.AddLaws.{keys_up}
-use Rattle.tally.proofs.AtomLaws.{atoms_to, atoms_are, atom_at_lem, entries_fine}
+use Rattle.tally.proofs.AtomLaws.{atoms_long, atom_at_lem, atoms_to, atoms_are, part_atoms, entries_fine}
 use Rattle.tally.proofs.SumLaws.{plain, sum_cons, keys_summed, sum_at, group_sum}
 use Rattle.tally.proofs.FormulaLaws.{ascending_same, sum_total, formula_fine_lem, formula_ascends, formula_there}
 use Rattle.tally.proofs.GroupLaws.{joined_keys, AllFit, joined_ascends, joined_there, keys_of, keys_at, keys_joined, no_isotope, counts_are}
 
--- so many atoms of the table t in by their labels, h implied hydrogens of a group not yet counted: the regions k and c show the others
+-- so many atoms of a table's part t in by their labels, h implied hydrogens of a group not yet counted: the regions k and c show the others
 pub record Passed (t : List ℤ) (ls : List ℕ) (i room count group h : ℕ) (k c : List ℕ) : Type 0 where
   pub few : count ≤ room
   pub within : count ≤ length k
@@ -140,14 +139,14 @@ module _ (t : List ℤ) (ls : List ℕ) (i room count group h : ℕ) (k c : List
     passed_on g e = subst (λ (m : ℕ). Passed t ls i room' r next m k' c') (sym e) passed_left
 
   -- one atom more, of the group that runs
-  pub passed_one : (own place more key r : ℕ) (k' c' : List ℕ) → room ≡ 2 * i → group ≡ get_or ls i 0 → group < 256 → own ≡ key_or (atom_no t i).kind → (own ≡ 0 → ⊥) → more ≡ (atom_no t i).hydrogens → more ≤ 15
+  pub passed_one : (own place more key r : ℕ) (k' c' : List ℕ) → room ≡ 2 * i → group ≡ get_or ls i 0 → group < 256 → own ≡ key_or (atom_in t i).kind → (own ≡ 0 → ⊥) → more ≡ (atom_in t i).hydrogens → more ≤ 15
       → key ≡ in_group group own → Between k count key place place → r ≤ count + 1 → count < 512 → length k' ≡ 512 → AddShows count place key 1 k c r k' c' → Passed t ls (i + 1) (2 * (i + 1) - 1) r group (h + more) k' c'
   unfolding sum_at
   passed_one own place more key r k' c' q g b e n m f kk w l u z s =
-      let e' : key_of (atom_no t i).kind ≡ own = key_given (atom_no t i).kind (λ y. n (e ∙ y)) ∙ sym e in
+      let e' : key_of (atom_in t i).kind ≡ own = key_given (atom_in t i).kind (λ y. n (e ∙ y)) ∙ sym e in
       let v : (x : ℕ) → sum_at t ls (i + 1) x ≡ (share (eqb x key) 1 + share (eqb x (in_group group 1024)) more) + sum_at t ls i x =
       λ x. ap (λ (j : ℕ). sum_at t ls j x) (add-one i)
-      ∙ ap₂ (λ (y o : ℕ). (share (eqb x (in_group y o)) 1 + share (eqb x (in_group y 1024)) (atom_no t i).hydrogens) + sum_at t ls i x) (sym g) e'
+      ∙ ap₂ (λ (y o : ℕ). (share (eqb x (in_group y o)) 1 + share (eqb x (in_group y 1024)) (atom_in t i).hydrogens) + sum_at t ls i x) (sym g) e'
       ∙ ap₂ (λ (y o : ℕ). (share (eqb x y) 1 + share (eqb x (in_group group 1024)) o) + sum_at t ls i x) (sym kk) (sym m) in
       record {
         few = omega (arith, p.few, l, q);
@@ -160,6 +159,20 @@ module _ (t : List ℤ) (ls : List ℕ) (i room count group h : ℕ) (k c : List
         shows = s p.entries (tallied key 1) refl refl w p.shows;
         sums = λ x. omega (arith, p.sums x, v x, share_sum (eqb x (in_group group 1024)) h more, sum_cons x (tallied key 1) p.entries);
       }
+
+-- the next atom's group runs from here on: what leaving the one before left of the entries
+pub passed_next : (t : List ℤ) (ls : List ℕ) (i count group h : ℕ) (k c : List ℕ) → Passed t ls i (2 * i - 1) count group h k c → i < 256 → (next r g : ℕ) (k' c' : List ℕ)
+    → (length k' ≡ 512) × (length c' ≡ 512) × (r ≤ count + 1) × (h ≡ 0 → r ≡ count) × LeftShows count group next h k c r k' c' → g ≡ share (eqb group next) h → Passed t ls i (2 * i) r next g k' c'
+passed_next t ls i count group h k c p b next r g k' c' (long, _, few, same, s) e =
+    passed_on t ls i (2 * i - 1) count group h k c p next r (2 * i) k' c' (room_left i count h r p.few p.small few same) (omega (arith, long, few, p.few, b)) s g e
+
+-- WHERE AN ELEMENT WAS PUT LAST: a place below a bound put among such places
+pub low_set : (b : ℕ) (l : List ℕ) → ((j : ℕ) → get_or l j 0 ≤ b) → (i a : ℕ) → a ≤ b → (j : ℕ) → get_or (set l i a) j 0 ≤ b
+low_set b [] h i a k j = h j
+low_set b (x ∷ xs) h zero a k zero = k
+low_set b (x ∷ xs) h zero a k (suc j) = h (suc j)
+low_set b (x ∷ xs) h (suc i) a k zero = h zero
+low_set b (x ∷ xs) h (suc i) a k (suc j) = low_set b xs (λ m. h (suc m)) i a k j
 
 -- A GROUP LEFT, as the code does it
 module _ (count group next h : ℕ) (k c : List ℕ) where
@@ -180,17 +193,17 @@ module _ (count group next h : ℕ) (k c : List ℕ) where
       subst (λ (xs : List Tallied). Shows xs (take r k') (take r c')) (sym q) (f es (tallied (in_group group 1024) h) (sym e) refl w s)
 
 -- AN ATOM THAT NO SOUND TABLE HAS
-module _ (t : List ℤ) (ls : List ℕ) (n i r : ℕ) (k c : List ℕ) (q : n ≡ count_at t 0 256) (b : i < n) where
-  there : all (atom_ok 103) (decode t).atoms ≡ true → atom_ok 103 (atom_no t i) ≡ true
-  there h = atom_at_lem (atom_ok 103) t (count_at t 0 256) i (sym (ap (all (atom_ok 103)) (atoms_are t)) ∙ h) (omega arith)
+module _ (t : List ℤ) (ls : List ℕ) (i r : ℕ) (k c : List ℕ) (b : i < length ls) where
+  there : all (atom_ok 103) (atoms_in t (length ls)) ≡ true → atom_ok 103 (atom_in t i) ≡ true
+  there h = atom_at_lem (atom_ok 103) t (length ls) i h b
 
-  pub no_kind : (key : ℕ) → key ≡ key_or (atom_no t i).kind → key ≡ 0 → Gathers t ls r k c
+  pub no_kind : (key : ℕ) → key ≡ key_or (atom_in t i).kind → key ≡ 0 → GathersAtoms t ls r k c
   no_kind key e z h lab =
-      let f : fine (atom_no t i).kind ≡ true = (atom_fine_lem (atom_no t i) (there h)).0 in
-      absurd (omega (arith, key_some (atom_no t i).kind f, key_or_lem (atom_no t i).kind f, e, z))
+      let f : fine (atom_in t i).kind ≡ true = (atom_fine_lem (atom_in t i) (there h)).0 in
+      absurd (omega (arith, key_some (atom_in t i).kind f, key_or_lem (atom_in t i).kind f, e, z))
 
-  pub no_hydrogens : (more : ℕ) → more ≡ (atom_no t i).hydrogens → 15 < more → Gathers t ls r k c
-  no_hydrogens more e z h lab = absurd (omega (arith, (atom_fine_lem (atom_no t i) (there h)).1, e, z))
+  pub no_hydrogens : (more : ℕ) → more ≡ (atom_in t i).hydrogens → 15 < more → GathersAtoms t ls r k c
+  no_hydrogens more e z h lab = absurd (omega (arith, (atom_fine_lem (atom_in t i) (there h)).1, e, z))
 
 -- A GROUP'S atoms are the table's; none is in a group that no label names
 pub group_all : (p : Atom → Bool) (i : ℕ) (xs : List ℕ) (atoms : List Atom) → all p atoms ≡ true → all p (group_of i xs atoms) ≡ true
@@ -217,12 +230,12 @@ group_none n m h (l ∷ ls) (a ∷ atoms) f =
     rw (e, group_of) (group_none n m h ls atoms q.1)
 
 -- THE FORMULA'S ENTRIES, group by group
-module _ (t : List ℤ) (labels : List ℕ) (n : ℕ) (ok : all (atom_ok 103) (atoms_to t n) ≡ true) (enough : n ≤ length labels) (named : all (λ l. ltb l n) (take n labels) ≡ true) where
+module _ (t : List ℤ) (labels : List ℕ) (n : ℕ) (ok : all (atom_ok 103) (atoms_in t n) ≡ true) (enough : n ≤ length labels) (named : all (λ l. ltb l n) (take n labels) ≡ true) where
   abbrev marks : List ℕ
   marks = map suc (take n labels)
 
   abbrev own : ℕ → List Atom
-  own i = group_of i marks (atoms_to t n)
+  own i = group_of i marks (atoms_in t n)
 
   abbrev gs : List (List Atom)
   gs = map own (count_up 1 n)
@@ -231,7 +244,7 @@ module _ (t : List ℤ) (labels : List ℕ) (n : ℕ) (ok : all (atom_ok 103) (a
   groups_long = map_length own (count_up 1 n) ∙ count_long 1 n
 
   fine_own : (i : ℕ) → all (λ e. fine e.kind) (entries_of (own i)) ≡ true
-  fine_own i = entries_fine (own i) (group_all (atom_ok 103) i marks (atoms_to t n) ok)
+  fine_own i = entries_fine (own i) (group_all (atom_ok 103) i marks (atoms_in t n) ok)
 
   all_fit : (xs : List ℕ) → AllFit (keys_of (map own xs))
   unfolding in_formula
@@ -253,10 +266,10 @@ module _ (t : List ℤ) (labels : List ℕ) (n : ℕ) (ok : all (atom_ok 103) (a
           sym (map_at own [] 0 (count_up 1 n) m (omega (arith, h, count_long 1 n)) ∙ ap own (count_at_lem 1 n m h ∙ omega arith))
       by false e =
           let h : n ≤ m = ltb-false m n e in
-          group_none n m h (take n labels) (atoms_to t n) named ∙ sym (get_or-eq_default gs [] (omega (arith, h, groups_long)))
+          group_none n m h (take n labels) (atoms_in t n) named ∙ sym (get_or-eq_default gs [] (omega (arith, h, groups_long)))
 
-  key_fine : (i : ℕ) → i < n → key_of (atom_no t i).kind < 65536
-  key_fine i h = key_high (atom_no t i).kind (atom_fine_lem (atom_no t i) (atom_at_lem (atom_ok 103) t n i ok h)).0
+  key_fine : (i : ℕ) → i < n → key_of (atom_in t i).kind < 65536
+  key_fine i h = key_high (atom_in t i).kind (atom_fine_lem (atom_in t i) (atom_at_lem (atom_ok 103) t n i ok h)).0
 
   sum_own : (m κ : ℕ) → κ < 65536 → sum_at t labels n (in_group m κ) ≡ sum_of κ (plain (entries_of (get_or gs m [])))
   sum_own m κ h = group_sum t labels m κ h n enough key_fine ∙ ap (λ (atoms : List Atom). sum_of κ (plain (entries_of atoms))) (own_at m)
@@ -295,23 +308,36 @@ module _ (t : List ℤ) (labels : List ℕ) (n : ℕ) (ok : all (atom_ok 103) (a
     counts_own : cs ≡ group_counts gs
     counts_own = s.sums ∙ ap (map (λ k. sum_of k es)) keys_are ∙ counts_are es 0 gs total_own
 
--- what is left in the end, over any atoms that are the table's
-pub gathered : (t : List ℤ) (labels : List ℕ) (n room count h : ℕ) (k c : List ℕ) → n ≡ count_at t 0 256 → Passed t labels n room count 256 h k c → Gathers t labels count k c
-gathered t labels n room count h k c q p ok lab =
-    let e : (decode t).atoms ≡ atoms_to t n = atoms_are t ∙ ap (atoms_to t) (sym q) in
-    let long : length (decode t).atoms ≡ n = ap length e ∙ map_length atom_at (rows_from 5 (take 5) n (drop 16 t)) ∙ rows_length 5 (take 5) n (drop 16 t) in
-    let fine_atoms : all (atom_ok 103) (atoms_to t n) ≡ true = ap (all (atom_ok 103)) (sym e) ∙ ok in
-    let enough : n ≤ length labels = omega (arith, long, lab.enough) in
-    let named : all (λ l. ltb l n) (take n labels) ≡ true = subst (λ (m : ℕ). all (λ l. ltb l m) (take m labels) ≡ true) long lab.named in
-    let sums : (x : ℕ) → sum_of x p.entries ≡ sum_at t labels n x = λ x. omega (arith, p.sums x, ap (share (eqb x (in_group 256 1024))) (p.none refl), share_none (eqb x (in_group 256 1024))) in
-    let same : groups_in t labels ≡ map (λ i. group_of i (map suc (take n labels)) (atoms_to t n)) (count_up 1 n) =
-    ap (λ (m : ℕ). map (λ i. group_of i (map suc (take m labels)) (decode t).atoms) (count_up 1 m)) long ∙ ap (λ (atoms : List Atom). map (λ i. group_of i (map suc (take n labels)) atoms) (count_up 1 n)) e in
-    let keys : take count k ≡ group_keys 0 (groups_in t labels) = keys_are t labels n fine_atoms enough named p.entries p.counted sums (take count k) (take count c) p.shows ∙ ap (group_keys 0) (sym same) in
+-- what is left in the end
+pub gathered : (t : List ℤ) (ls : List ℕ) (i room count h : ℕ) (k c : List ℕ) → i ≡ length ls → Passed t ls i room count 256 h k c → GathersAtoms t ls count k c
+gathered t ls i room count h k c q passed ok lab =
+    let n : ℕ = length ls in
+    let p : Passed t ls n room count 256 h k c = subst (λ (j : ℕ). Passed t ls j room count 256 h k c) q passed in
+    let whole : take n ls ≡ ls = take_all n ls (omega arith) in
+    let named : all (λ l. ltb l n) (take n ls) ≡ true = ap (all (λ l. ltb l n)) whole ∙ lab in
+    let sums : (x : ℕ) → sum_of x p.entries ≡ sum_at t ls n x = λ x. omega (arith, p.sums x, ap (share (eqb x (in_group 256 1024))) (p.none refl), share_none (eqb x (in_group 256 1024))) in
+    let same : groups_by (map suc ls) (atoms_in t n) ≡ map (λ i. group_of i (map suc (take n ls)) (atoms_in t n)) (count_up 1 n) =
+    ap (λ (m : ℕ). map (λ i. group_of i (map suc ls) (atoms_in t n)) (count_up 1 m)) (atoms_long t n) ∙ ap (λ (xs : List ℕ). map (λ i. group_of i (map suc xs) (atoms_in t n)) (count_up 1 n)) (sym whole) in
+    let keys : take count k ≡ group_keys 0 (groups_by (map suc ls) (atoms_in t n)) = keys_are t ls n ok (omega arith) named p.entries p.counted sums (take count k) (take count c) p.shows ∙ ap (group_keys 0) (sym same) in
     record {
       size = sym (length-take-le count k p.within) ∙ ap length keys;
       sorted = keys;
-      totals = counts_own t labels n fine_atoms enough named p.entries p.counted sums (take count k) (take count c) p.shows ∙ ap group_counts (sym same);
+      totals = counts_own t ls n ok (omega arith) named p.entries p.counted sums (take count k) (take count c) p.shows ∙ ap group_counts (sym same);
     }
+
+-- OF A TABLE: a part of it whose atoms by index are the table's, and as many labels
+pub of_table : (t a : List ℤ) (labels : List ℕ) (n m r : ℕ) (k c : List ℕ) → (n ≡ count_at t 0 256) × (n ≤ 256) → ((i : ℕ) → i < 256 → atom_in a i ≡ atom_no t i) → m ≡ n → n ≤ length labels → GathersAtoms a (take m labels) r k c → Gathers t labels r k c
+of_table t a labels n m r k c q same f enough g ok lab =
+    let e : (decode t).atoms ≡ atoms_in a n = atoms_are t ∙ ap (atoms_to t) (sym q.0) ∙ part_atoms t a n q.1 same in
+    let size : length (decode t).atoms ≡ n = ap length e ∙ atoms_long a n in
+    let own : length (take m labels) ≡ n = length-take-le m labels (omega (arith, f, enough)) ∙ f in
+    let atoms : atoms_in a (length (take m labels)) ≡ (decode t).atoms = ap (atoms_in a) own ∙ sym e in
+    let named : all (λ l. ltb l (length (take m labels))) (take m labels) ≡ true =
+    subst (λ (j : ℕ). all (λ l. ltb l j) (take m labels) ≡ true) (size ∙ sym own) (subst (λ (j : ℕ). all (λ l. ltb l (length (decode t).atoms)) (take j labels) ≡ true) (size ∙ sym f) lab.named) in
+    let fine_atoms : all (atom_ok 103) (atoms_in a (length (take m labels))) ≡ true = ap (all (atom_ok 103)) atoms ∙ ok in
+    subst (λ (gs : List (List Atom)). Gathered gs r k c)
+    (ap (groups_by (map suc (take m labels))) atoms ∙ ap (λ (j : ℕ). groups_by (map suc (take j labels)) (decode t).atoms) (f ∙ sym size))
+    (g fine_atoms named)
 
 pub shared_on : (group next h r : ℕ) → group ≡ next → r ≡ h → r ≡ share (eqb group next) h
 shared_on group next h r e f = f ∙ ap (λ (b : Bool). share b h) (sym (eq-eqb group next e))
@@ -323,4 +349,4 @@ shared_off group next h n = ap (λ (b : Bool). share b h) (sym (ne_eqb group nex
 pub no_labels : (t : List ℤ) (labels : List ℕ) (n r : ℕ) (k c : List ℕ) → n ≡ count_at t 0 256 → length labels < n → Gathers t labels r k c
 no_labels t labels n r k c q h ok lab =
     let e : (decode t).atoms ≡ atoms_to t n = atoms_are t ∙ ap (atoms_to t) (sym q) in
-    absurd (omega (arith, h, lab.enough, ap length e ∙ map_length atom_at (rows_from 5 (take 5) n (drop 16 t)) ∙ rows_length 5 (take 5) n (drop 16 t)))
+    absurd (omega (arith, h, lab.enough, ap length e ∙ atoms_long (drop 16 t) n))

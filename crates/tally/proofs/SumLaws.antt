@@ -5,23 +5,21 @@ use mathlib.Core.Path.{◌≡◌, refl, sym, ap, ◌∙◌}
 use mathlib.Core.Bool.{Bool, true, false, ◌&&◌}
 use mathlib.Core.List.{List, [], ◌∷◌, ◌++◌, map, map-append}
 use native.Mathlib.Omega.{arith}
-use lib.ListN.{length, get_or, take, drop}
+use lib.ListN.{length, get_or, take}
 use lib.Seq.{length-take-le}
 use lib.IntN.{ℤ}
 use lib.Dec.{eqb, ltb}
 use borrow.Author.Tests.{lt-ltb, ltb-true, eq-eqb, ne_eqb, eqb-true, eqb-false}
-use Rattle.lists.specs.Lists.{share, all, any, rows_from}
+use Rattle.lists.specs.Lists.{share, all, any}
 use Rattle.lists.proofs.ListLaws.{all_parts, any_nil, any_hit, any_miss}
 use Rattle.lists.proofs.IndexLaws.{map_length}
-use Rattle.lists.proofs.RegionLaws.{rows_length}
 use Rattle.lists.proofs.LexLaws.{Sides, less, equal, greater, sides}
 use Rattle.format.specs.Structure.{isotope_of, Atom, Entry, entries_of, group_of}
-use Rattle.format.specs.Table.{atom_at}
 use Rattle.format.proofs.TotalLaws.{entries_bare, entries_implied, entries_append}
 use Rattle.tally.specs.Ranks.{key_of}
-use Rattle.tally.specs.Gathering.{in_group, Tallied, tallied, keyed, sum_of, atom_no}
+use Rattle.tally.specs.Gathering.{in_group, Tallied, tallied, keyed, sum_of, atoms_in, atom_in}
 use Rattle.tally.proofs.RankLaws.{hydrogen_rank}
-use Rattle.tally.proofs.AtomLaws.{atoms_to, atoms_snoc}
+use Rattle.tally.proofs.AtomLaws.{atoms_long, atoms_snoc}
 use Rattle.tally.proofs.ShowLaws.{sum_nil, sum_hit, sum_miss}
 
 -- a kind's entry by its key alone
@@ -88,7 +86,7 @@ module _ (b d : ℕ) (p : b < 65536) (q : d < 65536) (a c : ℕ) where
 unfoldable pub sum_at : List ℤ → (labels : List ℕ) → (n key : ℕ) → ℕ
 sum_at t ls zero k = 0
 sum_at t ls (suc n) k =
-    (share (eqb k (in_group (get_or ls n 0) (key_of (atom_no t n).kind))) 1 + share (eqb k (in_group (get_or ls n 0) 1024)) (atom_no t n).hydrogens) + sum_at t ls n k
+    (share (eqb k (in_group (get_or ls n 0) (key_of (atom_in t n).kind))) 1 + share (eqb k (in_group (get_or ls n 0) 1024)) (atom_in t n).hydrogens) + sum_at t ls n k
 
 take_more : (n : ℕ) (ls : List ℕ) → n < length ls → take (suc n) ls ≡ take n ls ++ (get_or ls n 0 ∷ [])
 take_more n [] h = absurd (omega arith)
@@ -131,35 +129,35 @@ module _ (t : List ℤ) (ls : List ℕ) (m κ : ℕ) (small : κ < 65536) where
   hydrogens_key = ap (λ (n : ℕ). 512 * n + 0) hydrogen_rank
 
   abbrev in_own : (n : ℕ) → List Atom
-  in_own n = group_of (suc m) (map suc (take n ls)) (atoms_to t n)
+  in_own n = group_of (suc m) (map suc (take n ls)) (atoms_in t n)
 
-  own_more : (n : ℕ) → n < length ls → in_own (suc n) ≡ in_own n ++ group_of (suc m) (suc (get_or ls n 0) ∷ []) (atom_no t n ∷ [])
+  own_more : (n : ℕ) → n < length ls → in_own (suc n) ≡ in_own n ++ group_of (suc m) (suc (get_or ls n 0) ∷ []) (atom_in t n ∷ [])
   own_more n h =
       let q : map suc (take (suc n) ls) ≡ map suc (take n ls) ++ (suc (get_or ls n 0) ∷ []) = ap (map suc) (take_more n ls h) ∙ map-append suc (take n ls) (get_or ls n 0 ∷ []) in
-      ap (λ (xs : List ℕ). group_of (suc m) xs (atoms_to t (suc n))) q ∙ ap (group_of (suc m) (map suc (take n ls) ++ (suc (get_or ls n 0) ∷ []))) (atoms_snoc t n)
-      ∙ groups_more (suc m) (suc (get_or ls n 0)) (map suc (take n ls)) (atom_no t n) (atoms_to t n)
-      (map_length suc (take n ls) ∙ length-take-le n ls (omega arith) ∙ sym (map_length atom_at (rows_from 5 (take 5) n (drop 16 t)) ∙ rows_length 5 (take 5) n (drop 16 t)))
+      ap (λ (xs : List ℕ). group_of (suc m) xs (atoms_in t (suc n))) q ∙ ap (group_of (suc m) (map suc (take n ls) ++ (suc (get_or ls n 0) ∷ []))) (atoms_snoc t n)
+      ∙ groups_more (suc m) (suc (get_or ls n 0)) (map suc (take n ls)) (atom_in t n) (atoms_in t n)
+      (map_length suc (take n ls) ∙ length-take-le n ls (omega arith) ∙ sym (atoms_long t n))
 
-  one_more_lem : (n : ℕ) → key_of (atom_no t n).kind < 65536 → (b : Bool) → eqb m (get_or ls n 0) ≡ b → sum_of κ (plain (entries_of (group_of (suc m) (suc (get_or ls n 0) ∷ []) (atom_no t n ∷ []))))
-      ≡ share b (share (eqb κ (key_of (atom_no t n).kind)) 1) + share b (share (eqb κ 1024) (atom_no t n).hydrogens)
+  one_more_lem : (n : ℕ) → key_of (atom_in t n).kind < 65536 → (b : Bool) → eqb m (get_or ls n 0) ≡ b → sum_of κ (plain (entries_of (group_of (suc m) (suc (get_or ls n 0) ∷ []) (atom_in t n ∷ []))))
+      ≡ share b (share (eqb κ (key_of (atom_in t n).kind)) 1) + share b (share (eqb κ 1024) (atom_in t n).hydrogens)
   unfolding entries_of
   one_more_lem n f true e =
-      ap (λ (xs : List Atom). sum_of κ (plain (entries_of xs))) (group_hit (suc m) (suc (get_or ls n 0)) (atom_no t n) (next_same m (get_or ls n 0) true e)) ∙ sum_atom κ (atom_no t n)
-      ∙ ap (λ (x : ℕ). share (eqb κ (key_of (atom_no t n).kind)) 1 + share (eqb κ x) (atom_no t n).hydrogens) hydrogens_key
-  one_more_lem n f false e = ap (λ (xs : List Atom). sum_of κ (plain (entries_of xs))) (group_miss (suc m) (suc (get_or ls n 0)) (atom_no t n) (next_same m (get_or ls n 0) false e)) ∙ sum_nil κ
+      ap (λ (xs : List Atom). sum_of κ (plain (entries_of xs))) (group_hit (suc m) (suc (get_or ls n 0)) (atom_in t n) (next_same m (get_or ls n 0) true e)) ∙ sum_atom κ (atom_in t n)
+      ∙ ap (λ (x : ℕ). share (eqb κ (key_of (atom_in t n).kind)) 1 + share (eqb κ x) (atom_in t n).hydrogens) hydrogens_key
+  one_more_lem n f false e = ap (λ (xs : List Atom). sum_of κ (plain (entries_of xs))) (group_miss (suc m) (suc (get_or ls n 0)) (atom_in t n) (next_same m (get_or ls n 0) false e)) ∙ sum_nil κ
 
-  pub group_sum : (n : ℕ) → n ≤ length ls → ((i : ℕ) → i < n → key_of (atom_no t i).kind < 65536) → sum_at t ls n (in_group m κ) ≡ sum_of κ (plain (entries_of (in_own n)))
+  pub group_sum : (n : ℕ) → n ≤ length ls → ((i : ℕ) → i < n → key_of (atom_in t i).kind < 65536) → sum_at t ls n (in_group m κ) ≡ sum_of κ (plain (entries_of (in_own n)))
   unfolding sum_at group_of entries_of
   group_sum zero h f = sym (sum_nil κ)
   group_sum (suc n) h f =
       let b : Bool = eqb m (get_or ls n 0) in
-      let k : key_of (atom_no t n).kind < 65536 = f n (omega arith) in
+      let k : key_of (atom_in t n).kind < 65536 = f n (omega arith) in
       omega (
         arith,
-        here b (get_or ls n 0) (key_of (atom_no t n).kind) 1 k refl,
-        here b (get_or ls n 0) 1024 (atom_no t n).hydrogens (omega arith) refl,
+        here b (get_or ls n 0) (key_of (atom_in t n).kind) 1 k refl,
+        here b (get_or ls n 0) 1024 (atom_in t n).hydrogens (omega arith) refl,
         group_sum n (omega arith) (λ i g. f i (omega arith)),
         ap (λ (xs : List Atom). sum_of κ (plain (entries_of xs))) (own_more n (omega arith)),
-        sum_more κ (in_own n) (group_of (suc m) (suc (get_or ls n 0) ∷ []) (atom_no t n ∷ [])),
+        sum_more κ (in_own n) (group_of (suc m) (suc (get_or ls n 0) ∷ []) (atom_in t n ∷ [])),
         one_more_lem n k b refl,
       )

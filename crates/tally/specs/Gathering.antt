@@ -1,11 +1,11 @@
 -- The formula's entries gathered as keys and counts: document 01, "The one written form". What two regions show of entries met so far, and what they hold in the
 -- end. Assumes nothing.
 use Rattle.std.specs.Prelude.{ℕ, suc, ◌+◌, ◌*◌, ◌/◌, ◌%◌, ◌≤◌, ◌<◌, ◌≡◌, Bool, true, false, ◌||◌, List, [], ◌∷◌, ◌++◌, map, length, get_or, take, drop, ℤ, eqb, ltb}
-use Rattle.lists.specs.Lists.{all, any, flat}
+use Rattle.lists.specs.Lists.{all, any, flat, rows_from}
 use Rattle.lists.specs.Order.{sort, ascends}
 use Rattle.format.specs.Formula.{Counted, counted}
 use Rattle.format.specs.Structure.{Isotope, isotope_of, Atom, entries_of, total, kinds, groups_by, atom_ok}
-use Rattle.format.specs.Table.{cell, decode}
+use Rattle.format.specs.Table.{cell, atom_at, decode}
 use Rattle.format.specs.Writing.{spelt, formula_before}
 use Rattle.tally.specs.Ranks.{element_of, key_of}
 
@@ -43,6 +43,14 @@ groups_in t labels = groups_by (map suc (take (length (decode t).atoms) labels))
 -- of every table whose atoms are as a sound table has them
 abbrev pub Gathers : (table : List ℤ) (labels : List ℕ) (r : ℕ) (keys counts : List ℕ) → Type 0
 Gathers t labels r keys counts = all (atom_ok 103) (decode t).atoms ≡ true → Labels (length (decode t).atoms) labels → Gathered (groups_in t labels) r keys counts
+
+-- the same of the part of a table that has the atoms, a label for each
+abbrev pub atoms_in : List ℤ → (n : ℕ) → List Atom
+atoms_in a n = map atom_at (rows_from 5 (take 5) n a)
+
+abbrev pub GathersAtoms : (atoms : List ℤ) (labels : List ℕ) (r : ℕ) (keys counts : List ℕ) → Type 0
+GathersAtoms a labels r keys counts =
+    all (atom_ok 103) (atoms_in a (length labels)) ≡ true → all (λ l. ltb l (length labels)) labels ≡ true → Gathered (groups_by (map suc labels) (atoms_in a (length labels))) r keys counts
 
 -- the entry that a key and its count stand for
 unfoldable pub entry_of : (key count : ℕ) → Counted
@@ -89,6 +97,10 @@ AddShows count place key more k c r k' c' =
 -- THE ATOMS of a table one by one: the first has index 0
 unfoldable pub atom_no : List ℤ → ℕ → Atom
 atom_no t i = record { kind = isotope_of (cell t (16 + 5 * i)) (cell t (16 + 5 * i + 1)); hydrogens = cell t (16 + 5 * i + 2) }
+
+-- and those of its part that has them, which begins with the first
+unfoldable pub atom_in : List ℤ → ℕ → Atom
+atom_in a i = record { kind = isotope_of (cell a (5 * i)) (cell a (5 * i + 1)); hydrogens = cell a (5 * i + 2) }
 
 -- A GROUP LEFT: where the next atom is of another one, its implied hydrogens are one entry more, "counted as hydrogen without mass", whose key is 1024
 unfoldable pub left : (group next hydrogens : ℕ) → List Tallied → List Tallied

@@ -1,5 +1,5 @@
-// Entries by ascending key, in two lists of 512 numbers that are lent: the keys and the counts. Atoms of one kind mostly follow one another, so the place of the
-// last one is looked at first.
+// Entries by ascending key, in two lists of 512 numbers that are lent: the keys and the counts. Atoms of one kind mostly go to one place, so the caller may say at
+// which one to look first.
 ghost use Rattle.std.specs.Prelude.{◌≡◌, ◌&&◌, ◌+◌, ◌≤◌, ◌<◌, length, get_or, take, eqb, ltb};
 ghost use Rattle.tally.specs.Gathering.{KeysAscend, Between, one_more, AddShows};
 
