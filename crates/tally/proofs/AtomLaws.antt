@@ -1,5 +1,5 @@
--- The atoms of a table one by one: the atoms that a table holds are those by index, also those of its part that has them, and atoms as a sound table has them make entries that can be. Document 01, "The
--- structure table". Assumes nothing.
+-- The atoms of a table one by one: the atoms that a table holds are those by index, also those of its part that has them, and atoms as a sound table has them make
+-- entries that can be. Document 01, "The structure table". Assumes nothing.
 use Prim.Native.Nat.{ℕ, zero, suc, ◌+◌, ◌-◌, ◌*◌, ◌≤◌, ◌<◌, min}
 use mathlib.Core.Path.{◌≡◌, refl, sym, ap, ap₂, ◌∙◌}
 use mathlib.Core.Bool.{Bool, true, false}
