@@ -58,7 +58,7 @@ unfoldable pub coordinate : Factor → ℤ → Float
 coordinate f v = div binary64 (of_int binary64 (v *ℤ pos f.digits)) (of_int binary64 (pos (10 ^ f.decimals)))
 
 -- "The result times that power differs from the product by at most the product's size over 2^53, said over whole numbers.": a finite float's size is the fraction
--- num_of / denOf of two whole numbers; x times q differs from p by at most p over 2^53, with both denominators multiplied out, and has the sign s
+-- num_of / den_of of two whole numbers; x times q differs from p by at most p over 2^53, with both denominators multiplied out, and has the sign s
 abbrev pub num_of : Float → ℕ
 num_of nan = 0
 num_of (inf s) = 0

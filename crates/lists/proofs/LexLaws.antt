@@ -1,4 +1,4 @@
--- Lists of numbers compared one by one (lexBefore): the order is strict, and of two lists neither stands before the other if and only if they are equal. Also
+-- Lists of numbers compared one by one (lex_before): the order is strict, and of two lists neither stands before the other if and only if they are equal. Also
 -- the numbers' own order, and any order by a key. Serves the orders of rows and of the formula. Assumes nothing.
 use Prim.Native.Nat.{ℕ, ◌≤◌, ◌<◌}
 use mathlib.Core.Path.{◌≡◌, refl, sym, ◌∙◌}

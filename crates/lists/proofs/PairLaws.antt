@@ -1,4 +1,4 @@
--- Two members of a list (pairs) and two lists member by member (sameBy), clause by clause, so that no later proof opens them: lists are the same by a sound test
+-- Two members of a list (pairs) and two lists member by member (same_by), clause by clause, so that no later proof opens them: lists are the same by a sound test
 -- if and only if they are equal. Serves the laws on clashes, repeats and names. Assumes nothing.
 use Prim.Native.Nat.{ℕ, zero, suc, ◌+◌, ◌≤◌, ◌<◌}
 use mathlib.Core.Path.{◌≡◌, refl, sym, ap, ◌∙◌}

@@ -4,7 +4,7 @@ use Rattle.std.proofs.Math.Option.{Option, none, some}
 use Rattle.format.specs.Formula.{Counted}
 use Rattle.format.specs.Structure.{isotope, Entry, entry}
 
--- the entries as Reading's formulaTurn keeps them
+-- the entries as Reading's formula_turn keeps them
 abbrev pub entry_of : (k : ℕ) → Counted → Entry
 entry_of k c = entry (isotope k c.symbol) c.count
 

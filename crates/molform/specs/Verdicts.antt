@@ -1,4 +1,4 @@
--- The refusal of a formula, as Reading's formulaTurn tests it: document 01, "Rows", MOLFORM; "Refusal numbers": 9, 10, 12, "the lowest number" decides.
+-- The refusal of a formula, as Reading's formula_turn tests it: document 01, "Rows", MOLFORM; "Refusal numbers": 9, 10, 12, "the lowest number" decides.
 -- Assumes nothing.
 use Rattle.std.specs.Prelude.{ℕ, zero, suc, min, Bool, true, false, ◌&&◌, List}
 use Rattle.std.proofs.Math.Option.{Option, none, some}

@@ -1,4 +1,4 @@
--- One line of a list, told of the list alone: document 01, "Rows". The definitions tell the same of the whole state (Reading.atomLine, rowLine); gather's
+-- One line of a list, told of the list alone: document 01, "Rows". The definitions tell the same of the whole state (Reading.atom_line, row_line); gather's
 -- StepLaws has the two equations. Assumes nothing.
 use Rattle.std.specs.Prelude.{ℕ, suc, Bool, true, false, ◌&&◌, not, List, [], ◌∷◌, ◌++◌, length, eqb, leb}
 use Rattle.std.proofs.Math.Option.{Option, none, some}
