@@ -1,6 +1,6 @@
 -- The atoms of a table one by one: the atoms that a table holds are those by index, also those of its part that has them, and atoms as a sound table has them make
 -- entries that can be. Document 01, "The structure table". Assumes nothing.
-use Prim.Native.Nat.{ℕ, zero, suc, ◌+◌, ◌-◌, ◌*◌, ◌≤◌, ◌<◌, min}
+use Prim.Native.Nat.{ℕ, zero, suc, ◌+◌, ◌*◌, ◌≤◌, ◌<◌, min}
 use mathlib.Core.Path.{◌≡◌, refl, sym, ap, ap₂, ◌∙◌}
 use mathlib.Core.Bool.{Bool, true, false}
 use mathlib.Core.List.{List, [], ◌∷◌, ◌++◌, map, map-append}
@@ -16,7 +16,8 @@ use Rattle.lists.specs.Lists.{all, rows_from}
 use Rattle.lists.proofs.ListLaws.{all_nil, all_parts, all_both, all_at}
 use Rattle.lists.proofs.RegionLaws.{rows_zero, rows_length, rows_at, rows_snoc}
 use Rattle.format.specs.Structure.{isotope_of, Atom, Entry, entry, entries_of, atom_ok}
-use Rattle.format.specs.Table.{cell, count_at, atom_at, atom_records, decode}
+use Rattle.format.specs.Table.{cell, count_at, atom_at, atom_place, atom_records, decode}
+use Rattle.format.proofs.PlaceLaws.{atom_place_lem}
 use Rattle.format.proofs.TotalLaws.{entries_bare, entries_implied}
 use Rattle.tally.specs.Ranks.{key_or, fine}
 use Rattle.tally.specs.Gathering.{atoms_in, atom_no, atom_in}
@@ -24,14 +25,17 @@ use Rattle.lists.proofs.IndexLaws.{map_length, map_at}
 use Rattle.tally.proofs.KeyLaws.{hydrogen_fine, atom_fine_lem}
 
 -- ONE ATOM, read at its place
-module _ (a : List ℤ) (i : ℕ) where
-  pub key_read : (e m r : ℕ) → e ≡ cell a (5 * i) → m ≡ cell a (5 * i + 1) → r ≡ key_or (isotope_of e m) → r ≡ key_or (atom_in a i).kind
-  unfolding atom_in
-  key_read e m r p q f = f ∙ ap₂ (λ (x y : ℕ). key_or (isotope_of x y)) p q
+module _ (t : List ℤ) (i p : ℕ) (low : i < 256) (at : p ≡ atom_place i) where
+  there : p ≡ 16 + 5 * i
+  there = at ∙ atom_place_lem i low
 
-  pub implied_read : (r : ℕ) → r ≡ cell a (5 * i + 2) → r ≡ (atom_in a i).hydrogens
-  unfolding atom_in
-  implied_read r f = f
+  pub key_read : (e m r : ℕ) → e ≡ cell t p → m ≡ cell t (p + 1) → r ≡ key_or (isotope_of e m) → r ≡ key_or (atom_no t i).kind
+  unfolding atom_no
+  key_read e m r a b f = f ∙ ap₂ (λ (x y : ℕ). key_or (isotope_of x y)) (a ∙ ap (cell t) there) (b ∙ ap (λ (n : ℕ). cell t (n + 1)) there)
+
+  pub implied_read : (r : ℕ) → r ≡ cell t (p + 2) → r ≡ (atom_no t i).hydrogens
+  unfolding atom_no
+  implied_read r f = f ∙ ap (λ (n : ℕ). cell t (n + 2)) there
 
 -- THE ATOMS BY INDEX
 module _ (a : List ℤ) (n : ℕ) where
@@ -81,31 +85,36 @@ module _ (t : List ℤ) (i : ℕ) where
       let q : 16 + (5 * i + j) ≡ 16 + 5 * i + j = omega arith in
       ap nat_abs (get_or-drop 16 t (5 * i + j) (pos 0)) ∙ ap (cell t) q
 
-  atom_dropped : atom_no t i ≡ atom_in (drop 16 t) i
+  pub atom_dropped : atom_no t i ≡ atom_in (drop 16 t) i
   unfolding atom_no atom_in
   atom_dropped =
       let first : cell t (16 + 5 * i) ≡ cell (drop 16 t) (5 * i) = ap nat_abs (sym (get_or-drop 16 t (5 * i) (pos 0))) in
       rw (first, sym (read_on 1), sym (read_on 2))
 
--- THE PART OF A TABLE that has the atoms, as far as the table goes: beyond its end and the table's stands 0
-module _ (t : List ℤ) (f e i : ℕ) (q : e ≡ min (length t) 1296) (p : f ≡ min e 16) (b : i < 256) where
-  part_cell : (j : ℕ) → j < 5 → cell (take (e - f) (drop f t)) (5 * i + j) ≡ cell t (16 + 5 * i + j)
-  part_cell j h = by (ltb (16 + 5 * i + j) (length t)) refl
+  pub key_dropped : (r : ℕ) → r ≡ key_or (atom_no t i).kind → r ≡ key_or (atom_in (drop 16 t) i).kind
+  key_dropped r e = e ∙ ap (λ (a : Atom). key_or a.kind) atom_dropped
+
+  pub implied_dropped : (r : ℕ) → r ≡ (atom_no t i).hydrogens → r ≡ (atom_in (drop 16 t) i).hydrogens
+  implied_dropped r e = e ∙ ap (λ (a : Atom). a.hydrogens) atom_dropped
+
+-- THE FRONT OF A TABLE, up to where its atoms end, as far as the table goes: beyond its end and the table's stands 0
+module _ (t : List ℤ) (e i : ℕ) (q : e ≡ min (length t) 1296) (b : i < 256) where
+  front_cell : (j : ℕ) → j < 5 → cell (take e t) (16 + 5 * i + j) ≡ cell t (16 + 5 * i + j)
+  front_cell j h = by (ltb (16 + 5 * i + j) (length t)) refl
     where
-      by : (d : Bool) → ltb (16 + 5 * i + j) (length t) ≡ d → cell (take (e - f) (drop f t)) (5 * i + j) ≡ cell t (16 + 5 * i + j)
+      by : (d : Bool) → ltb (16 + 5 * i + j) (length t) ≡ d → cell (take e t) (16 + 5 * i + j) ≡ cell t (16 + 5 * i + j)
       by true g =
           let l : 16 + 5 * i + j < length t = ltb-true (16 + 5 * i + j) (length t) g in
-          let r : f + (5 * i + j) ≡ 16 + 5 * i + j = omega arith in
-          ap nat_abs (get_or-take (e - f) (drop f t) (5 * i + j) (pos 0) (omega arith) ∙ get_or-drop f t (5 * i + j) (pos 0)) ∙ ap (cell t) r
+          ap nat_abs (get_or-take e t (16 + 5 * i + j) (pos 0) (omega arith))
       by false g =
           let l : length t ≤ 16 + 5 * i + j = ltb-false (16 + 5 * i + j) (length t) g in
-          ap nat_abs (get_or-eq_default (take (e - f) (drop f t)) (pos 0) (omega (arith, length-take (e - f) (drop f t))) ∙ sym (get_or-eq_default t (pos 0) l))
+          ap nat_abs (get_or-eq_default (take e t) (pos 0) (omega (arith, length-take e t)) ∙ sym (get_or-eq_default t (pos 0) l))
 
-  pub part_atom : atom_in (take (e - f) (drop f t)) i ≡ atom_no t i
-  unfolding atom_no atom_in
-  part_atom =
-      let first : cell (take (e - f) (drop f t)) (5 * i) ≡ cell t (16 + 5 * i) = ap (cell (take (e - f) (drop f t))) (omega arith) ∙ part_cell 0 (omega arith) ∙ ap (cell t) (omega arith) in
-      rw (first, part_cell 1 (omega arith), part_cell 2 (omega arith))
+  pub front_atom : atom_no (take e t) i ≡ atom_no t i
+  unfolding atom_no
+  front_atom =
+      let first : cell (take e t) (16 + 5 * i) ≡ cell t (16 + 5 * i) = ap (cell (take e t)) (omega arith) ∙ front_cell 0 (omega arith) ∙ ap (cell t) (omega arith) in
+      rw (first, front_cell 1 (omega arith), front_cell 2 (omega arith))
 
 -- the atoms of a table are those of a part whose atoms by index are the table's
 pub part_atoms : (t a : List ℤ) (n : ℕ) → n ≤ 256 → ((i : ℕ) → i < 256 → atom_in a i ≡ atom_no t i) → atoms_to t n ≡ atoms_in a n

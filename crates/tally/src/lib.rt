@@ -3,10 +3,10 @@
 // another and counted when they end, "as hydrogen without mass".
 #![tactic(auto)]
 
-ghost use Rattle.std.specs.Prelude.{◌≡◌, ℕ, ◌+◌, ◌<◌, ◌≤◌, length, get_or, eqb};
+ghost use Rattle.std.specs.Prelude.{◌≡◌, ℕ, ◌+◌, ◌<◌, ◌≤◌, length, drop, get_or, eqb};
 ghost use Rattle.lists.specs.Lists.{share};
 ghost use Rattle.tally.specs.Ranks.{key_or};
-ghost use Rattle.tally.specs.Gathering.{KeysAscend, Gathers, GathersAtoms, atom_no, atom_in, LeftShows};
+ghost use Rattle.tally.specs.Gathering.{KeysAscend, Gathers, GathersAtoms, atom_no, LeftShows};
 
 pub mod elements; // elements.rt: elements by their rank
 mod entries; // entries.rt: entries by ascending key
@@ -26,30 +26,27 @@ pub const GROUPS: u32 = 65536;
 // A number that no group has.
 const NO_GROUP: u32 = 256;
 
-// How many numbers an atom has.
-const WIDTH: usize = 5;
-
 // How many ranks a key may have: those below GROUPS / MASSES.
 const RANKS: usize = 128;
 
 // The key of hydrogen without mass, whose rank is 2.
 const HYDROGEN: u32 = 2 * MASSES;
 
-// The key of the atom with this index, in the table's part that has the atoms; 0 where no atom of a sound table is of its kind.
-fn key_at(atoms: &[i32], index: usize) -> u32
+// The key of the atom with this index; 0 where no atom of a sound table is of its kind.
+fn key_at(table: &[i32], index: usize) -> u32
     requires { index < 256 }
-    ensures { result ≡ key_or (atom_in atoms.now index).kind }
+    ensures { result ≡ key_or (atom_no table.now index).kind }
 {
-    let place = WIDTH * index;
-    key_of(cell(atoms, place), cell(atoms, place + 1))
+    let place = Table::atom(index);
+    key_of(cell(table, place), cell(table, place + 1))
 }
 
 // Its implied hydrogens.
-fn implied_at(atoms: &[i32], index: usize) -> u32
+fn implied_at(table: &[i32], index: usize) -> u32
     requires { index < 256 }
-    ensures { result ≡ (atom_in atoms.now index).hydrogens }
+    ensures { result ≡ (atom_no table.now index).hydrogens }
 {
-    cell(atoms, WIDTH * index + 2)
+    cell(table, Table::atom(index) + 2)
 }
 
 // A group is left where the next atom is of another one: its implied hydrogens, if it has any, are one entry more. Answers how many entries there are then.
@@ -85,17 +82,17 @@ fn carried(group: u32, next: u32, hydrogens: u32) -> u32
     0
 }
 
-// As many atoms as there are labels, in the table's part that has them. Where an element was put last is remembered for each rank and looked at first: it is there
+// As many atoms as there are labels, in the table's front that has them. Where an element was put last is remembered for each rank and looked at first: it is there
 // again but for a few atoms of a block. An atom that no sound table has ends the pass with 0.
 fn gather_atoms(
-    atoms: &[i32],
+    front: &[i32],
     labels: &[u8],
     keys: &mut [u32; ENTRIES],
     counts: &mut [u32; ENTRIES],
 ) -> usize
     requires { length labels.now ≤ 256 }
     ensures within { result ≤ 512 }
-    ensures holds { GathersAtoms atoms.now labels.now result keys.new counts.new }
+    ensures holds { GathersAtoms (drop 16 front.now) labels.now result keys.new counts.new }
 {
     let mut likely = [0u16; RANKS];
     let mut count = 0;
@@ -103,8 +100,8 @@ fn gather_atoms(
     let mut hydrogens = 0;
     let mut i = 0;
     while i < labels.len() {
-        let own = key_at(atoms, i);
-        let more = implied_at(atoms, i);
+        let own = key_at(front, i);
+        let more = implied_at(front, i);
         if own == 0 {
             return 0;
         }
@@ -125,13 +122,12 @@ fn gather_atoms(
     leave_group(keys, counts, count, group, NO_GROUP, hydrogens)
 }
 
-// The part of a table that has the atoms, as far as the table goes: beyond either's end stands 0.
-fn atoms_part(table: &[i32]) -> &[i32]
-    ensures { (i : ℕ) → i < 256 → atom_in result.now i ≡ atom_no table.now i }
+// The front of a table, up to where its atoms end, as far as the table goes: beyond either's end stands 0.
+fn front_of(table: &[i32]) -> &[i32]
+    ensures { (i : ℕ) → i < 256 → atom_no result.now i ≡ atom_no table.now i }
 {
     let end = table.len().min(Table::FIRST_BOND);
-    let first = end.min(Table::FIRST_ATOM);
-    &table[first..end]
+    &table[0..end]
 }
 
 // The keys and counts of the formula's entries, fragment by fragment, each in the formula's order, and how many there are: "C, H, then by symbol, a shorter symbol
@@ -149,6 +145,6 @@ pub fn gather(
     if labels.len() < atoms {
         return 0;
     }
-    let part = atoms_part(table);
-    gather_atoms(part, &labels[0..atoms], keys, counts)
+    let front = front_of(table);
+    gather_atoms(front, &labels[0..atoms], keys, counts)
 }
