@@ -1,7 +1,9 @@
 // One byte: which of document 01's kinds it is: "Lines and labels" (blanks, allowed bytes), "Rows" (digits and letters).
 #![tactic(auto)]
 
-ghost use Rattle.std.specs.Prelude.{◌≡◌};
+pub mod kind; // kind.rt: where a run of bytes of one kind ends
+
+ghost use Rattle.std.specs.Prelude.{◌≡◌, ◌-◌, cond};
 ghost use Rattle.format.specs.Bytes.{gap, allowed};
 ghost use Rattle.format.specs.Rows.{digit, upper, lower};
 
@@ -9,16 +11,16 @@ ghost use Rattle.format.specs.Rows.{digit, upper, lower};
 pub fn is_gap(b: u8) -> bool
     ensures { result ≡ gap b }
 {
-    if b == 32 {
+    if b == b' ' {
         return true;
     }
-    if b == 9 {
+    if b == b'\t' {
         return true;
     }
-    if b == 13 {
+    if b == b'\r' {
         return true;
     }
-    b == 10
+    b == b'\n'
 }
 
 // "Allowed bytes: 9, 10, 13 and 32 to 126."
@@ -28,26 +30,36 @@ pub fn is_allowed(b: u8) -> bool
     if is_gap(b) {
         return true;
     }
-    32 <= b && b <= 126
+    b' ' <= b && b <= b'~'
 }
 
 // 0 to 9
 pub fn is_digit(b: u8) -> bool
     ensures { result ≡ digit b }
 {
-    48 <= b && b <= 57
+    b'0' <= b && b <= b'9'
+}
+
+// What a digit says.
+pub fn digit(b: u8) -> Option<u32>
+    ensures { result ≡ cond (digit b) (Some (b - 48)) None }
+{
+    if !is_digit(b) {
+        return None;
+    }
+    Some(u32::from(b - b'0'))
 }
 
 // A to Z
 pub fn is_upper(b: u8) -> bool
     ensures { result ≡ upper b }
 {
-    65 <= b && b <= 90
+    b'A' <= b && b <= b'Z'
 }
 
 // a to z
 pub fn is_lower(b: u8) -> bool
     ensures { result ≡ lower b }
 {
-    97 <= b && b <= 122
+    b'a' <= b && b <= b'z'
 }

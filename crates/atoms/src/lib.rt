@@ -1,33 +1,29 @@
 // Lines of ATOMLIST: document 01, "Rows". "Numbers run 1, 2, 3 and on.", so that an atom joins behind those that are there. A refusal is handed on with the line's
-// place. What no reading lends, another length or more atoms than 256, is answered 0, and nothing is touched.
+// place. What no reading lends, another length or more atoms than 256, is answered Unlent, and nothing is touched.
 #![tactic(auto)]
 
 ghost use Rattle.std.specs.Prelude.{◌≡◌, List, [], ◌∷◌, ◌*◌, ◌≤◌, ◌<◌, length};
-ghost use Rattle.std.proofs.Math.Option.{some};
+ghost use Rattle.std.specs.declared.option.Option.TheVariants.{Some};
 ghost use Rattle.std.proofs.lemmas.List.Edits.{sets};
 ghost use Rattle.format.specs.Bytes.{fields};
 ghost use Rattle.format.specs.Structure.{Atom};
 ghost use Rattle.rows.specs.Answers.{atom_row_of};
 ghost use Rattle.sorted.specs.Steps.{atom_after, atom_step};
 ghost use Rattle.sorted.specs.Regions.{kinds_region};
-ghost use Rattle.sorted.specs.Shown.{ShowsAfter, ShowsLine, LineWithin, LineUntouched};
-ghost use Rattle.sorted.specs.Keyed.{KeptWithin};
+ghost use Rattle.sorted.specs.Shown.{ShowsAfter, ShowsLine, KeptWithin, LineUntouched};
 
 use format::Table;
-use rows::atom::AtomRow;
-use sorted::after::{LineAfter, RowAfter, on_line};
+use format::refusal::{Refusal, Refused};
+use rows::atom::{AtomRow, atom_row};
+use sorted::keyed::is_bare;
 use sorted::scratch::Scratch;
-use symbols::Mark;
 
 // One atom more behind those that are there: its element, its mass and its implied hydrogens. A region of another length or without room is untouched.
 pub fn put_atom(region: &mut [u32], atoms: usize, element: u32, mass: u32, hydrogens: u32)
     ensures { (length region.new ≡ length region.old) × (length region.old ≡ 768 → atoms < 256 → region.new ≡ sets region.old (3 * atoms) (element ∷ mass ∷ hydrogens ∷ []))
         × ((length region.old ≡ 768 → ⊥) → region.new ≡ region.old) × (256 ≤ atoms → region.new ≡ region.old) }
 {
-    if region.len() != Scratch::KINDS {
-        return;
-    }
-    if Table::ATOMS <= atoms {
+    if region.len() != Scratch::KINDS || Table::ATOMS <= atoms {
         return;
     }
     let at = 3 * atoms;
@@ -38,39 +34,40 @@ pub fn put_atom(region: &mut [u32], atoms: usize, element: u32, mass: u32, hydro
 
 // What an atom whose values are in hand leaves of the atoms, so many there and the elements known up to `last`: 10 out of range, 11 another number than the next, 12
 // an unknown symbol, 14 one atom too many.
-fn atom_joined(
-    number: u32,
-    mark: Mark,
-    hydrogens: u32,
-    last: u32,
-    atoms: usize,
-    region: &mut [u32],
-) -> RowAfter
+fn atom_joined(row: AtomRow, last: u32, atoms: usize, region: &mut [u32]) -> Result<usize, Refusal>
     requires { (length region.old ≡ 768) × (atoms ≤ 256) }
     ensures { (length region.new ≡ length region.old) × KeptWithin 256 result × ((listed : List Atom) → length listed ≡ atoms → region.old ≡ kinds_region listed →
-        ShowsAfter kinds_region region.new result (atom_after last listed (some (atom_row_of number mark hydrogens)))) }
+        ShowsAfter kinds_region region.new result (atom_after last listed (Some (atom_row_of row)))) }
 {
-    if !elements::mass_fits(mark) {
-        return RowAfter::Stop(10);
+    if !elements::mass_fits(row.mark) || 15 < row.hydrogens {
+        return Err(Refusal::Range);
     }
-    if 15 < hydrogens {
-        return RowAfter::Stop(10);
-    }
-    let place = number as usize;
     let next = atoms + 1;
-    let isotope = elements::isotope_of(mark, last);
-    let element = isotope.element;
-    if place != next {
-        return RowAfter::Stop(11);
+    if row.number as usize != next {
+        return Err(Refusal::AtomNumber);
     }
-    if element == 0 {
-        return RowAfter::Stop(12);
+    let isotope = elements::isotope_of(row.mark, last);
+    if isotope.element == 0 {
+        return Err(Refusal::Symbol);
     }
     if Table::ATOMS <= atoms {
-        return RowAfter::Stop(14);
+        return Err(Refusal::Full);
     }
-    put_atom(region, atoms, element, isotope.mass, hydrogens);
-    RowAfter::Kept(next)
+    put_atom(region, atoms, isotope.element, isotope.mass, row.hydrogens);
+    Ok(next)
+}
+
+// A line without a field leaves the atoms as they are, a row joins them.
+fn line_joined(line: &[u8], last: u32, atoms: usize, region: &mut [u32]) -> Result<usize, Refusal>
+    requires { (length region.old ≡ 768) × (atoms ≤ 256) }
+    ensures { (length region.new ≡ length region.old) × KeptWithin 256 result × ((listed : List Atom) → length listed ≡ atoms → region.old ≡ kinds_region listed →
+        ShowsAfter kinds_region region.new result (atom_step last listed (fields line.now))) }
+{
+    if is_bare(line) {
+        return Ok(atoms);
+    }
+    let row = atom_row(line)?;
+    atom_joined(row, last, atoms, region)
 }
 
 // What a line of ATOMLIST leaves of the atoms: "number, symbol, optional hydrogens 0 to 15 (absent means 0)". The line is without its comment; `place` is where it
@@ -81,27 +78,13 @@ pub fn atom_line(
     last: u32,
     atoms: usize,
     region: &mut [u32],
-) -> LineAfter
-    ensures { (length region.new ≡ length region.old) × (length region.old ≡ 768 → atoms ≤ 256 → LineWithin 256 result × ((listed : List Atom) → length listed ≡ atoms → region.old ≡ kinds_region listed →
+) -> Result<usize, Refused>
+    ensures { (length region.new ≡ length region.old) × (length region.old ≡ 768 → atoms ≤ 256 → KeptWithin 256 result × ((listed : List Atom) → length listed ≡ atoms → region.old ≡ kinds_region listed →
         ShowsLine kinds_region place region.new result (atom_step last listed (fields line.now))))
         × ((length region.old ≡ 768 → atoms ≤ 256 → ⊥) → LineUntouched place region.old region.new result) }
 {
-    if region.len() != Scratch::KINDS {
-        return LineAfter::Refused(0, place);
+    if region.len() != Scratch::KINDS || Table::ATOMS < atoms {
+        return Err(Refusal::Unlent.at(place));
     }
-    if Table::ATOMS < atoms {
-        return LineAfter::Refused(0, place);
-    }
-    if sorted::keyed::is_bare(line) {
-        return LineAfter::Kept(atoms);
-    }
-    let row = rows::atom::atom_row(line);
-    let AtomRow::Values(number, mark, hydrogens) = row else {
-        let AtomRow::Refused(reason) = row else {
-            return LineAfter::Refused(0, place);
-        };
-        return LineAfter::Refused(reason, place);
-    };
-    let after = atom_joined(number, mark, hydrogens, last, atoms, region);
-    on_line(after, place)
+    line_joined(line, last, atoms, region).map_err(|refusal| refusal.at(place))
 }

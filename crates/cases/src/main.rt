@@ -8,7 +8,7 @@ ghost use Rattle.std.specs.Prelude.{◌+◌, ◌≤◌, ◌<◌, ◌≡◌, IfOk
 
 use coordinates::table::Positions;
 use format::Table;
-use reader::Answer;
+use format::refusal::Refused;
 use std::io;
 use std::io::Read;
 
@@ -19,7 +19,7 @@ fn room() -> [u8; 1048576]
     [0; 1048576]
 }
 
-// Reads until the buffer is full or the input ends; how many bytes lie at its start.
+// Reads until the buffer is full or the input ends (as the other program does: no program can call another, and no library of the format reads); how many bytes lie at its start.
 fn read_full<R: Read>(from: &mut R, buffer: &mut [u8]) -> io::Result<usize>
     ensures { IfOk result (λ n. n ≤ length buffer.new) }
 {
@@ -62,13 +62,13 @@ fn print_cell(rt: &impl Print, table: &[i32], at: usize) -> io::Result<()> {
 }
 
 // The line of a reading.
-fn print_line(rt: &impl Print, answer: Answer, table: &[i32]) -> io::Result<()> {
+fn print_line(rt: &impl Print, answer: Result<(), Refused>, table: &[i32]) -> io::Result<()> {
     match answer {
-        Answer::Accepted => {
-            print!(rt; "0 0")?;
-        }
-        Answer::Refused(number, place) => {
-            print!(rt; "{number} {place}")?;
+        Ok(()) => print!(rt; "0 0")?,
+        Err(refused) => {
+            let number = refused.refusal.number();
+            let place = refused.place;
+            print!(rt; "{number} {place}")?
         }
     }
     print_cell(rt, table, Table::ATOM_COUNT)?;

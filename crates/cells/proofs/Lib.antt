@@ -1,3 +1,3 @@
 -- The laws of this crate, file by file. Assumes nothing.
 pub mod SignLaws
-pub mod CountLaws
+pub mod FirstLaws

@@ -8,32 +8,22 @@ ghost use Rattle.format.specs.Table.{cell as cell_of, count_at};
 ghost use Rattle.cells.specs.Signs.{negative};
 
 // Whether the number there is below zero.
+#[tactic(auto, unfolding(crate::specs::Signs::negative))]
 pub fn is_negative(table: &[i32], at: usize) -> bool
     ensures { result ≡ negative (get_or table.now at (pos 0)) }
 {
-    if at < table.len() {
-        let number = table[at];
-        return number < 0;
-    }
-    false
+    table.get(at).is_some_and(|number| *number < 0)
 }
 
-// The number there without its sign. The lowest number of 32 bits has no positive one beside it, so one is added behind the sign's change.
+// The number there without its sign, which the lowest number of 32 bits has too.
 pub fn cell(table: &[i32], at: usize) -> u32
     ensures { result ≡ cell_of table.now at }
 {
-    if at < table.len() {
-        let number = table[at];
-        if number < 0 {
-            let below = -1 - number;
-            return below as u32 + 1;
-        }
-        return number as u32;
-    }
-    0
+    table.get(at).map_or(0, |number| number.unsigned_abs())
 }
 
 // Whether the number there is none below `low` and none above `high`; a negative one never is.
+#[tactic(auto, using(crate::proofs::SignLaws::ranging_is))]
 pub fn ranges(table: &[i32], at: usize, low: u32, high: u32) -> bool
     ensures { result ≡ ranging low high (get_or table.now at (pos 0)) }
 {
@@ -41,19 +31,13 @@ pub fn ranges(table: &[i32], at: usize, low: u32, high: u32) -> bool
         return false;
     }
     let number = cell(table, at);
-    if number < low {
-        return false;
-    }
-    number <= high
+    low <= number && number <= high
 }
 
 // A count of the table, cut to what its list holds.
+#[tactic(auto, unfolding(format::specs::Table::count_at))]
 pub fn count_at(table: &[i32], at: usize, most: usize) -> usize
     ensures { (result ≡ count_at table.now at most) × (result ≤ most) }
 {
-    let count = cell(table, at) as usize;
-    if count < most {
-        return count;
-    }
-    most
+    most.min(cell(table, at) as usize)
 }

@@ -1,2 +1,1 @@
--- The laws of this crate's functions. Assumes nothing.
-pub mod ClearLaws
+-- The laws of this crate. Assumes nothing.

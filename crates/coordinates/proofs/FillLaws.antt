@@ -1,14 +1,15 @@
 -- One row's position more in the table, and that the table which the kept rows give is the definition's. Serves document 02, L2 ("Positions stand in a lent table of
 -- their own"). Assumes nothing.
-use Prim.Native.Nat.{ℕ, zero, suc, ◌+◌, ◌-◌, ◌*◌, ◌≤◌}
+use Prim.Native.Nat.{ℕ, zero, suc, ◌+◌, ◌-◌, ◌*◌, ◌/◌, ◌≤◌}
 use mathlib.Core.Path.{◌≡◌, refl, sym, ap, ap₂, ◌∙◌}
 use mathlib.Core.Bool.{Bool, true, false}
 use mathlib.Core.List.{List, [], ◌∷◌, ◌++◌}
-use native.Mathlib.Nat.{zero-add}
+use native.Mathlib.Nat.{zero-add, le_of_lt, min-eq_left, min-eq_right}
 use native.Mathlib.Numerals.{add-one}
 use native.Mathlib.Omega.{arith}
-use borrow.Author.Tests.{ne_eqb}
-use lib.Dec.{eqb}
+use borrow.Author.Tests.{ne_eqb, leb-true, leb-false, le-ltb}
+use Rattle.std.specs.Prelude.{min}
+use lib.Dec.{eqb, leb}
 use lib.ListN.{length, drop, length-replicate}
 use lib.Seq.{drop_at}
 use lib.IntN.{ℤ}
@@ -17,21 +18,22 @@ use Rattle.lists.specs.Lists.{all, flat, count_up}
 use Rattle.lists.proofs.Bools.{eqb_same}
 use Rattle.lists.proofs.ListLaws.{all_parts}
 use Rattle.lists.proofs.PartLaws.{flat_same}
-use Rattle.format.specs.Coordinates.{Factor, XyzRow, Geometry, Position, At, nought, coordinate, position_numbers, position_in, position_table}
-use Rattle.format.specs.Table.{cell, noughts}
-use Rattle.rows.specs.Raised.{six_digits, row_small}
-use Rattle.factor.specs.ShownFactors.{lowered}
+use Rattle.format.specs.Coordinates.{Factor, XyzRow, Geometry, At, nought, coordinate, position_numbers, position_in, position_table}
+use Rattle.format.specs.Table.{noughts}
+use Rattle.rows.specs.Raised.{six_digits, row_small, xyz_row_of}
+use Rattle.rows.specs.declared.xyz.XyzRow.{XyzRow as Raised}
 use Rattle.factor.proofs.QuotientLaws.{scaled_is}
-use Rattle.coordinates.specs.ShownPositions.{row_position, placed, fronted}
-use Rattle.coordinates.specs.KeptRows.{has_row, row_from, row_at, rows_in, Stored}
+use Rattle.coordinates.specs.ShownPositions.{shown_point, row_position, placed, fronted}
+use Rattle.coordinates.specs.declared.Point.{Point}
+use Rattle.coordinates.specs.KeptRows.{has_row, row_at, rows_in, Stored}
 use Rattle.coordinates.specs.Filled.{scaled_in, scaled_table, placed_row}
 use Rattle.coordinates.proofs.ClearLaws.{fronted_long}
 use Rattle.coordinates.proofs.TableLaws.{numbers_of, flat_up, one_placed}
-use Rattle.coordinates.proofs.KeptLaws.{row_is, row_none, no_row_later}
+use Rattle.coordinates.proofs.KeptLaws.{row_by, row_none, no_row_later}
 
 module _ (f : Factor) where
   -- AN ATOM'S POSITION: its own row's, or that of the rows before
-  scaled_here : (r : XyzRow) (rs : List XyzRow) → scaled_in f (r ∷ rs) r.atom ≡ row_position f r.x r.y r.z
+  scaled_here : (r : XyzRow) (rs : List XyzRow) → scaled_in f (r ∷ rs) r.atom ≡ row_position f r
   unfolding scaled_in
   scaled_here r rs = rw (eqb_same r.atom, scaled_in)
 
@@ -70,18 +72,10 @@ module _ (f : Factor) where
     unfolding rows_in
     rows_cons n = refl
 
-    -- a row's four numbers, read one by one, and its position written
-    pub row_written : (i : ℕ) → has_row (length w) i ≡ true → (t u : List Float) (a x y z : ℕ) (p : Position)
-        → a ≡ cell w (4 * i) → x ≡ cell w (4 * i + 1) → y ≡ cell w (4 * i + 2) → z ≡ cell w (4 * i + 3)
-        → p ≡ row_position f (lowered x) (lowered y) (lowered z) → u ≡ placed t a p → u ≡ placed_row f t (row_at w i)
-    row_written i e t u a x y z p ha hx hy hz hp hu =
-        hu
-        ∙ ap (placed t a) hp
-        ∙ ap (λ (n : ℕ). placed t n (row_position f (lowered x) (lowered y) (lowered z))) ha
-        ∙ ap (λ (n : ℕ). placed_row f t (row_from (cell w (4 * i)) n y z)) hx
-        ∙ ap (λ (n : ℕ). placed_row f t (row_from (cell w (4 * i)) (cell w (4 * i + 1)) n z)) hy
-        ∙ ap (λ (n : ℕ). placed_row f t (row_from (cell w (4 * i)) (cell w (4 * i + 1)) (cell w (4 * i + 2)) n)) hz
-        ∙ ap (placed_row f t) (sym (row_is w i e))
+    -- a row as the code reads it, and its position written
+    pub row_placed_at : (i : ℕ) (t : List Float) (r : Raised) (p : Point) → xyz_row_of r ≡ row_at w i → shown_point p ≡ row_position f (xyz_row_of r)
+        → placed t r.atom (shown_point p) ≡ placed_row f t (row_at w i)
+    row_placed_at i t r p e h = ap (placed t r.atom) h ∙ ap (placed_row f t) e
 
     -- rows beyond the store change nothing
     beyond : (i : ℕ) → has_row (length w) i ≡ false → (k : ℕ) → scaled_table f (rows_in (k + i) w) ≡ scaled_table f (rows_in i w)
@@ -113,16 +107,26 @@ module _ (f : Factor) where
           → t ≡ fronted (scaled_table f (rows_in n w)) t₀
       ended i n t e p = p ∙ ap₂ (λ (l k : List Float). l ++ k) e same_behind ∙ sym (fronted_long (scaled_table f (rows_in n w)) t₀ long)
 
-      pub fill_beyond : (i n : ℕ) (t : List Float) → i ≤ n → has_row (length w) i ≡ false → t ≡ scaled_table f (rows_in i w) ++ drop 1024 t₁
+      fill_beyond : (i n : ℕ) (t : List Float) → i ≤ n → has_row (length w) i ≡ false → t ≡ scaled_table f (rows_in i w) ++ drop 1024 t₁
           → t ≡ fronted (scaled_table f (rows_in n w)) t₀
       fill_beyond i n t h e p = let q : n - i + i ≡ n = omega arith in ended i n t (sym (beyond i e (n - i)) ∙ ap (λ (k : ℕ). scaled_table f (rows_in k w)) q) p
 
-      pub fill_end : (i n : ℕ) (t : List Float) → i ≤ n → n ≤ i → t ≡ scaled_table f (rows_in i w) ++ drop 1024 t₁ → t ≡ fronted (scaled_table f (rows_in n w)) t₀
+      fill_end : (i n : ℕ) (t : List Float) → i ≤ n → n ≤ i → t ≡ scaled_table f (rows_in i w) ++ drop 1024 t₁ → t ≡ fronted (scaled_table f (rows_in n w)) t₀
       fill_end i n t h k p = let q : i ≡ n = omega arith in ended i n t (ap (λ (m : ℕ). scaled_table f (rows_in m w)) q) p
+
+      pub filled : (n i : ℕ) (t : List Float) → i ≤ min n (length w / 4) → min n (length w / 4) ≤ i → t ≡ scaled_table f (rows_in i w) ++ drop 1024 t₁ → t ≡ fronted (scaled_table f (rows_in n w)) t₀
+      filled n i t low high e = go (leb n (length w / 4)) refl
+        where
+          go : (b : Bool) → leb n (length w / 4) ≡ b → t ≡ fronted (scaled_table f (rows_in n w)) t₀
+          go true b = let p = min-eq_left (leb-true n (length w / 4) b) in fill_end i n t (omega arith) (omega arith) e
+          go false b =
+              let l = leb-false n (length w / 4) b in
+              let p = min-eq_right (le_of_lt l) in
+              fill_beyond i n t (omega arith) (sym (row_by (length w) i) ∙ le-ltb i (length w / 4) (omega arith)) e
 
   -- THE DEFINITION'S POSITION, where rows and factor have their size
   module _ (decimals : f.decimals ≤ 9) where
-    row_exact : (r : XyzRow) → row_small r ≡ true → row_position f r.x r.y r.z ≡ At (coordinate f r.x) (coordinate f r.y) (coordinate f r.z)
+    row_exact : (r : XyzRow) → row_small r ≡ true → row_position f r ≡ At (coordinate f r.x) (coordinate f r.y) (coordinate f r.z)
     row_exact r h =
         let p = all_parts six_digits r.x (r.y ∷ r.z ∷ []) h in
         let q = all_parts six_digits r.y (r.z ∷ []) p.1 in
@@ -135,7 +139,7 @@ module _ (f : Factor) where
       where
         go : (t : Bool) → eqb r.atom n ≡ t → (row_small r ≡ true) × (all row_small rs ≡ true) → scaled_in f rs n ≡ position_in f rs n → scaled_in f (r ∷ rs) n ≡ position_in f (r ∷ rs) n
         go true e p ih =
-            let a : scaled_in f (r ∷ rs) n ≡ row_position f r.x r.y r.z = rw (e, scaled_in) in
+            let a : scaled_in f (r ∷ rs) n ≡ row_position f r = rw (e, scaled_in) in
             let b : position_in f (r ∷ rs) n ≡ At (coordinate f r.x) (coordinate f r.y) (coordinate f r.z) = rw (e, position_in) in
             a ∙ row_exact r p.0 ∙ sym b
         go false e p ih =

@@ -4,24 +4,25 @@ use Prim.Native.Nat.{ℕ, zero, suc, ◌+◌, ◌*◌, ◌/◌, ◌≤◌, ◌<�
 use mathlib.Core.Path.{◌≡◌, refl, sym, ap, ap₂, ◌∙◌}
 use mathlib.Core.Bool.{Bool, true, false, ◌&&◌}
 use mathlib.Core.List.{List, [], ◌∷◌, ◌++◌}
-use native.Mathlib.Nat.{le-div_iff_mul-le}
+use native.Mathlib.Nat.{le-div_iff_mul-le, le-max_left, le-max_right, max-le}
+use Rattle.std.specs.Prelude.{max}
 use native.Mathlib.Omega.{arith}
 use borrow.Author.Tests.{ltb-true, leb-true, leb-false, lt-ltb, le-leb, lt-leb}
 use lib.Dec.{leb, ltb, lit<}
-use lib.ListN.{length, set, take, drop, get_or, length-append, length-drop}
-use lib.Seq.{length-take-le, take_at, get_or-take, get_or-append-add, get_or_at}
-use lib.IntN.{ℤ, pos, negsuc}
+use lib.ListN.{length, take, drop, get_or, length-append, length-drop}
+use lib.Seq.{drop-drop, length-take-le, take_at, get_or-take, get_or-append-add, get_or_at}
+use lib.IntN.{ℤ, pos, nat_abs}
 use mir.Facts.{to_z_pos}
 use mir.Syntax.{w32}
 use mir.Val.{to_z}
 use Rattle.lists.proofs.Bools.{both_ways, and_parts, and_both, and_left_false, and_right_false}
-use Rattle.lists.proofs.ListLaws.{all_parts}
 use Rattle.format.specs.Coordinates.{XyzRow}
 use Rattle.format.specs.Table.{cell}
-use Rattle.rows.specs.Raised.{raised, six_digits, row_small}
-use Rattle.factor.proofs.QuotientLaws.{lowered_raised}
+use Rattle.rows.specs.Raised.{lowered, six_digits, row_small, xyz_row_of}
+use Rattle.rows.specs.declared.xyz.XyzRow.{XyzRow as Raised}
+use Rattle.rows.proofs.XyzLaws.{three_small}
+use Rattle.factor.proofs.QuotientLaws.{lowered_far}
 use Rattle.coordinates.specs.KeptRows.{has_row, row_from, row_at, rows_in, modest, kept, Stored}
-use Rattle.coordinates.proofs.PlaceLaws.{four_put}
 
 -- ROOM for a row
 pub row_by : (l i : ℕ) → ltb i (l / 4) ≡ has_row l i
@@ -30,6 +31,9 @@ row_by l i =
     both_ways (ltb i (l / 4)) (leb (4 * suc i) l)
     (λ e. le-leb (4 * suc i) l (omega (arith, (le-div_iff_mul-le {k = 4} {x = suc i} {y = l} (lit< tt)).0 (ltb-true i (l / 4) e))))
     (λ e. lt-ltb i (l / 4) ((le-div_iff_mul-le {k = 4} {x = suc i} {y = l} (lit< tt)).1 (omega (arith, leb-true (4 * suc i) l e))))
+
+pub row_held : (l i : ℕ) → i < l / 4 → has_row l i ≡ true
+row_held l i h = sym (row_by l i) ∙ lt-ltb i (l / 4) h
 
 pub row_told : (l i : ℕ) → has_row l i ≡ true → 4 * i + 4 ≤ l
 unfolding has_row
@@ -53,94 +57,97 @@ unfolding row_at
 row_is w i e = rw (e, row_at)
 
 -- NUMBERS that a row can have
-module _ (a x y z : ℕ) where
-  pub modest_atom : 2000000 < a → false ≡ modest a x y z
+module _ (r : Raised) where
+  pub modest_by : leb (max (max r.atom r.x) (max r.y r.z)) 2000000 ≡ modest r
   unfolding modest
-  modest_atom h = sym (rw (lt-leb a 2000000 h))
+  modest_by =
+      both_ways (leb (max (max r.atom r.x) (max r.y r.z)) 2000000) (leb r.atom 2000000 && (leb r.x 2000000 && (leb r.y 2000000 && leb r.z 2000000)))
+      (λ e.
+      let m : max (max r.atom r.x) (max r.y r.z) ≤ 2000000 = leb-true (max (max r.atom r.x) (max r.y r.z)) 2000000 e in
+      let f = le-max_left (max r.atom r.x) (max r.y r.z) in
+      let g = le-max_right (max r.atom r.x) (max r.y r.z) in
+      let a = le-leb r.atom 2000000 (omega (arith, m, f, le-max_left r.atom r.x)) in
+      let x = le-leb r.x 2000000 (omega (arith, m, f, le-max_right r.atom r.x)) in
+      let y = le-leb r.y 2000000 (omega (arith, m, g, le-max_left r.y r.z)) in
+      let z = le-leb r.z 2000000 (omega (arith, m, g, le-max_right r.y r.z)) in
+      rw (a, x, y, z) refl)
+      (λ e.
+      let p = and_parts (leb r.atom 2000000) (leb r.x 2000000 && (leb r.y 2000000 && leb r.z 2000000)) e in
+      let q = and_parts (leb r.x 2000000) (leb r.y 2000000 && leb r.z 2000000) p.1 in
+      let s = and_parts (leb r.y 2000000) (leb r.z 2000000) q.1 in
+      le-leb (max (max r.atom r.x) (max r.y r.z)) 2000000 (max-le (max-le (leb-true r.atom 2000000 p.0) (leb-true r.x 2000000 q.0)) (max-le (leb-true r.y 2000000 s.0) (leb-true r.z 2000000 s.1))))
 
-  pub modest_first : a ≤ 2000000 → 2000000 < x → false ≡ modest a x y z
-  unfolding modest
-  modest_first p h = sym (rw (le-leb a 2000000 p, lt-leb x 2000000 h))
-
-  pub modest_second : a ≤ 2000000 → x ≤ 2000000 → 2000000 < y → false ≡ modest a x y z
-  unfolding modest
-  modest_second p q h = sym (rw (le-leb a 2000000 p, le-leb x 2000000 q, lt-leb y 2000000 h))
-
-  pub modest_third : a ≤ 2000000 → x ≤ 2000000 → y ≤ 2000000 → leb z 2000000 ≡ modest a x y z
-  unfolding modest
-  modest_third p q r = sym (rw (le-leb a 2000000 p, le-leb x 2000000 q, le-leb y 2000000 r))
-
-  pub modest_told : modest a x y z ≡ true → (a ≤ 2000000) × (x ≤ 2000000) × (y ≤ 2000000) × (z ≤ 2000000)
+  pub modest_told : modest r ≡ true → (r.atom ≤ 2000000) × (r.x ≤ 2000000) × (r.y ≤ 2000000) × (r.z ≤ 2000000)
   unfolding modest
   modest_told e =
-      let p = and_parts (leb a 2000000) (leb x 2000000 && (leb y 2000000 && leb z 2000000)) e in
-      let q = and_parts (leb x 2000000) (leb y 2000000 && leb z 2000000) p.1 in
-      let r = and_parts (leb y 2000000) (leb z 2000000) q.1 in
-      (leb-true a 2000000 p.0, leb-true x 2000000 q.0, leb-true y 2000000 r.0, leb-true z 2000000 r.1)
+      let p = and_parts (leb r.atom 2000000) (leb r.x 2000000 && (leb r.y 2000000 && leb r.z 2000000)) e in
+      let q = and_parts (leb r.x 2000000) (leb r.y 2000000 && leb r.z 2000000) p.1 in
+      let s = and_parts (leb r.y 2000000) (leb r.z 2000000) q.1 in
+      (leb-true r.atom 2000000 p.0, leb-true r.x 2000000 q.0, leb-true r.y 2000000 s.0, leb-true r.z 2000000 s.1)
 
 -- ONE ROW WRITTEN
-module _ (w : List ℤ) (i a x y z : ℕ) where
+module _ (w : List ℤ) (i : ℕ) (r : Raised) where
   abbrev cells : List ℤ
-  cells = pos a ∷ pos x ∷ pos y ∷ pos z ∷ []
+  cells = pos r.atom ∷ pos r.x ∷ pos r.y ∷ pos r.z ∷ []
 
-  pub kept_roomless : has_row (length w) i ≡ false → w ≡ kept w i a x y z
+  pub kept_roomless : has_row (length w) i ≡ false → w ≡ kept w i r
   unfolding kept
-  kept_roomless e = sym (rw (and_left_false (has_row (length w) i) (modest a x y z) e, kept))
+  kept_roomless e = sym (rw (and_left_false (has_row (length w) i) (modest r) e, kept))
 
-  pub kept_immodest : modest a x y z ≡ false → w ≡ kept w i a x y z
+  pub kept_immodest : modest r ≡ false → w ≡ kept w i r
   unfolding kept
-  kept_immodest e = sym (rw (and_right_false (has_row (length w) i) (modest a x y z) e, kept))
+  kept_immodest e = sym (rw (and_right_false (has_row (length w) i) (modest r) e, kept))
 
-  module _ (has : has_row (length w) i ≡ true) (fine : modest a x y z ≡ true) where
-    kept_is : kept w i a x y z ≡ take (4 * i) w ++ (cells ++ drop (4 * suc i) w)
+  module _ (has : has_row (length w) i ≡ true) (fine : modest r ≡ true) where
+    kept_is : kept w i r ≡ take (4 * i) w ++ (cells ++ drop (4 * suc i) w)
     unfolding kept
-    kept_is = rw (and_both (has_row (length w) i) (modest a x y z) has fine, kept)
+    kept_is = rw (and_both (has_row (length w) i) (modest r) has fine, kept)
 
-    -- the four stores, each number as the machine holds it
-    pub kept_written : set (set (set (set w (4 * i) (to_z w32 a)) (4 * i + 1) (to_z w32 x)) (4 * i + 2) (to_z w32 y)) (4 * i + 3) (to_z w32 z) ≡ kept w i a x y z
-    kept_written =
-        let b = modest_told a x y z fine in
-        let p : to_z w32 a ≡ pos a = to_z_pos w32 {n = a} (omega arith) in
-        let q : to_z w32 x ≡ pos x = to_z_pos w32 {n = x} (omega arith) in
-        let r : to_z w32 y ≡ pos y = to_z_pos w32 {n = y} (omega arith) in
-        let s : to_z w32 z ≡ pos z = to_z_pos w32 {n = z} (omega arith) in
-        let e : 4 * i + 4 ≡ 4 * suc i = omega arith in
-        rw (p, q, r, s) (four_put w (4 * i) (pos a) (pos x) (pos y) (pos z) (row_told (length w) i has) ∙ ap (λ (n : ℕ). take (4 * i) w ++ (cells ++ drop n w)) e ∙ sym kept_is)
+    -- the part written, each number as the machine holds it
+    pub kept_written : (n : ℕ) → n ≡ 4 → take (4 * i) w ++ ((to_z w32 r.atom ∷ to_z w32 r.x ∷ to_z w32 r.y ∷ to_z w32 r.z ∷ []) ++ drop n (drop (4 * i) w)) ≡ kept w i r
+    kept_written n q =
+        let b = modest_told r fine in
+        let a : to_z w32 r.atom ≡ pos r.atom = to_z_pos w32 {n = r.atom} (omega arith) in
+        let x : to_z w32 r.x ≡ pos r.x = to_z_pos w32 {n = r.x} (omega arith) in
+        let y : to_z w32 r.y ≡ pos r.y = to_z_pos w32 {n = r.y} (omega arith) in
+        let z : to_z w32 r.z ≡ pos r.z = to_z_pos w32 {n = r.z} (omega arith) in
+        let e : 4 * i + n ≡ 4 * suc i = omega arith in
+        rw (a, x, y, z) (ap (λ (l : List ℤ). take (4 * i) w ++ (cells ++ l)) (drop-drop n (4 * i) w ∙ ap (λ (m : ℕ). drop m w) e) ∙ sym kept_is)
 
     front_length : length (take (4 * i) w) ≡ 4 * i
     front_length = length-take-le (4 * i) w (omega (arith, row_told (length w) i has))
 
-    written_length : length (kept w i a x y z) ≡ length w
+    written_length : length (kept w i r) ≡ length w
     written_length =
         ap length kept_is
         ∙ length-append (take (4 * i) w) (cells ++ drop (4 * suc i) w)
         ∙ omega (arith, front_length, row_told (length w) i has, length-drop (4 * suc i) w)
 
     -- what is read: the row itself, and before it what stood there
-    written_front : take (4 * i) (kept w i a x y z) ≡ take (4 * i) w
+    written_front : take (4 * i) (kept w i r) ≡ take (4 * i) w
     written_front = ap (take (4 * i)) kept_is ∙ take_at (take (4 * i) w) (cells ++ drop (4 * suc i) w) (4 * i) front_length
 
-    number_at : (j : ℕ) → get_or (kept w i a x y z) (4 * i + j) (pos 0) ≡ get_or (cells ++ drop (4 * suc i) w) j (pos 0)
+    number_at : (j : ℕ) → get_or (kept w i r) (4 * i + j) (pos 0) ≡ get_or (cells ++ drop (4 * suc i) w) j (pos 0)
     number_at j =
         ap (λ (l : List ℤ). get_or l (4 * i + j) (pos 0)) kept_is
         ∙ ap (λ (n : ℕ). get_or (take (4 * i) w ++ (cells ++ drop (4 * suc i) w)) (n + j) (pos 0)) (sym front_length)
         ∙ get_or-append-add (take (4 * i) w) (cells ++ drop (4 * suc i) w) j (pos 0)
 
-    first_at : get_or (kept w i a x y z) (4 * i) (pos 0) ≡ pos a
-    first_at = ap (λ (l : List ℤ). get_or l (4 * i) (pos 0)) kept_is ∙ get_or_at (take (4 * i) w) (pos a) _ (pos 0) (4 * i) front_length
+    first_at : get_or (kept w i r) (4 * i) (pos 0) ≡ pos r.atom
+    first_at = ap (λ (l : List ℤ). get_or l (4 * i) (pos 0)) kept_is ∙ get_or_at (take (4 * i) w) (pos r.atom) _ (pos 0) (4 * i) front_length
 
-    pub written_row : row_at (kept w i a x y z) i ≡ row_from a x y z
+    pub written_row : row_at (kept w i r) i ≡ xyz_row_of r
     written_row =
-        row_is (kept w i a x y z) i (ap (λ (l : ℕ). has_row l i) written_length ∙ has)
+        row_is (kept w i r) i (ap (λ (l : ℕ). has_row l i) written_length ∙ has)
         ∙ rw (first_at, number_at 1, number_at 2, number_at 3)
 
-pub kept_length : (w : List ℤ) (i a x y z : ℕ) → length (kept w i a x y z) ≡ length w
-kept_length w i a x y z = go (has_row (length w) i) refl (modest a x y z) refl
+pub kept_length : (w : List ℤ) (i : ℕ) (r : Raised) → length (kept w i r) ≡ length w
+kept_length w i r = go (has_row (length w) i) refl (modest r) refl
   where
-    go : (s : Bool) → has_row (length w) i ≡ s → (t : Bool) → modest a x y z ≡ t → length (kept w i a x y z) ≡ length w
-    go true p true q = written_length w i a x y z p q
-    go true p false q = ap length (sym (kept_immodest w i a x y z q))
-    go false p t q = ap length (sym (kept_roomless w i a x y z p))
+    go : (s : Bool) → has_row (length w) i ≡ s → (t : Bool) → modest r ≡ t → length (kept w i r) ≡ length w
+    go true p true q = written_length w i r p q
+    go true p false q = ap length (sym (kept_immodest w i r q))
+    go false p t q = ap length (sym (kept_roomless w i r p))
 
 -- ROWS IN FRONT: those of two stores that begin alike are the same
 module _ (v w : List ℤ) (n : ℕ) (long : length v ≡ length w) (front : take (4 * n) v ≡ take (4 * n) w) where
@@ -173,35 +180,28 @@ pub stored_less : (w : List ℤ) (r : XyzRow) (rows : List XyzRow) → 4 * lengt
 unfolding rows_in
 stored_less w r rows room s h = ap (drop 1) (s room)
 
--- a row's numbers, raised, are none above 2,000,000, and lowered again they are the row
-raised_modest : (v : ℤ) → six_digits v ≡ true → raised v ≤ 2000000
-raised_modest (pos n) h = omega (arith, leb-true n 999999 h)
-raised_modest (negsuc n) h = omega arith
+-- a row's numbers are none above 2,000,000 where the numbers that they stand for have six digits
+raised_modest : (n : ℕ) → six_digits (lowered n) ≡ true → leb n 2000000 ≡ true
+raised_modest n h = go (leb n 2000000) refl
+  where
+    go : (t : Bool) → leb n 2000000 ≡ t → leb n 2000000 ≡ true
+    go true e = e
+    go false e = let f : 1000000 < nat_abs (lowered n) = lowered_far n (leb-false n 2000000 e) in let b = leb-true (nat_abs (lowered n)) 999999 h in absurd (omega arith)
 
-module _ (r : XyzRow) (small : row_small r ≡ true) where
-  abbrev each : (six_digits r.x ≡ true) × (six_digits r.y ≡ true) × (six_digits r.z ≡ true)
-  each =
-      let p = all_parts six_digits r.x (r.y ∷ r.z ∷ []) small in
-      let q = all_parts six_digits r.y (r.z ∷ []) p.1 in
-      (p.0, q.0, (all_parts six_digits r.z [] q.1).0)
+row_modest : (r : Raised) → row_small (xyz_row_of r) ≡ true → r.atom ≤ 2000000 → modest r ≡ true
+unfolding modest
+row_modest r small h =
+    let s = three_small (xyz_row_of r) small in
+    rw (le-leb r.atom 2000000 h, raised_modest r.x s.0, raised_modest r.y s.1, raised_modest r.z s.2) refl
 
-  row_modest : r.atom ≤ 2000000 → modest r.atom (raised r.x) (raised r.y) (raised r.z) ≡ true
-  row_modest h = sym (modest_third r.atom (raised r.x) (raised r.y) (raised r.z) h (raised_modest r.x each.0) (raised_modest r.y each.1)) ∙ le-leb (raised r.z) 2000000 (raised_modest r.z each.2)
-
-  row_back : row_from r.atom (raised r.x) (raised r.y) (raised r.z) ≡ r
-  row_back = rw (lowered_raised r.x each.0, lowered_raised r.y each.1, lowered_raised r.z each.2)
-
-pub kept_stored : (w : List ℤ) (r : XyzRow) (rows : List XyzRow) → row_small r ≡ true → r.atom ≤ 2000000 → Stored w rows
-    → Stored (kept w (length rows) r.atom (raised r.x) (raised r.y) (raised r.z)) (r ∷ rows)
+pub kept_stored : (w : List ℤ) (r : Raised) (rows : List XyzRow) → row_small (xyz_row_of r) ≡ true → r.atom ≤ 2000000 → Stored w rows
+    → Stored (kept w (length rows) r) (xyz_row_of r ∷ rows)
 unfolding rows_in
 kept_stored w r rows small low s h =
     let n = length rows in
-    let room : 4 * suc n ≤ length w = omega (arith, h, kept_length w n r.atom (raised r.x) (raised r.y) (raised r.z)) in
+    let room : 4 * suc n ≤ length w = omega (arith, h, kept_length w n r) in
     let has = row_room (length w) n room in
     let fine = row_modest r small low in
     ap₂ (λ (q : XyzRow) (qs : List XyzRow). q ∷ qs)
-    (written_row w n r.atom (raised r.x) (raised r.y) (raised r.z) has fine ∙ row_back r small)
-    (same_rows (kept w n r.atom (raised r.x) (raised r.y) (raised r.z)) w n
-    (written_length w n r.atom (raised r.x) (raised r.y) (raised r.z) has fine)
-    (written_front w n r.atom (raised r.x) (raised r.y) (raised r.z) has fine) n (omega arith)
-    ∙ s (omega (arith, room)))
+    (written_row w n r has fine)
+    (same_rows (kept w n r) w n (written_length w n r has fine) (written_front w n r has fine) n (omega arith) ∙ s (omega (arith, room)))

@@ -1,24 +1,21 @@
 -- An atom's four numbers in the lent table: whether there is a place for them, written and read. Serves document 02, L2 ("per atom 1 if given, X, Y, Z; else
 -- four 0"). Assumes nothing.
-use Prim.Native.Nat.{ℕ, suc, ◌+◌, ◌-◌, ◌*◌, ◌≤◌, ◌<◌}
+use Prim.Native.Nat.{ℕ, ◌+◌, ◌-◌, ◌*◌, ◌≤◌, ◌<◌}
 use mathlib.Core.Path.{◌≡◌, refl, sym, ap, ◌∙◌}
 use mathlib.Core.Bool.{true, false}
-use mathlib.Core.List.{List, [], ◌∷◌, ◌++◌, append_assoc}
+use mathlib.Core.List.{List, [], ◌∷◌, ◌++◌}
 use native.Mathlib.Omega.{arith}
 use borrow.Author.Tests.{leb-true}
 use lib.Dec.{leb}
-use lib.ListN.{length, set, take, drop, get_or}
-use lib.Seq.{sets-eq}
+use lib.ListN.{length, take, drop, get_or}
 use lib.IntN.{pos}
 use lib.Ieee.{Float, nan, fin, binary64, of_bits, of_fields, eq}
-use Rattle.lists.proofs.Bools.{and_parts, and_left_false}
+use Rattle.lists.proofs.Bools.{and_parts}
 use Rattle.format.specs.Bytes.{within}
 use Rattle.format.specs.Coordinates.{Position, At, NotGiven, position_numbers}
-use Rattle.format.proofs.ByteLaws.{within_true, within_is, within_low, within_high}
+use Rattle.format.proofs.ByteLaws.{within_true, within_is}
 use Rattle.factor.proofs.QuotientLaws.{nought_is}
-use Rattle.coordinates.specs.declared.Position.{Position as Answer}
-use Rattle.coordinates.specs.declared.Position.TheVariants as P
-use Rattle.coordinates.specs.ShownPositions.{shown_position, has_place, placed, four_at, position_at}
+use Rattle.coordinates.specs.ShownPositions.{has_place, placed, four_at, position_at}
 
 -- a literal 1.0 of the code
 pub one_is : of_bits binary64 4607182418800017408 ≡ fin false 1 (pos 0)
@@ -27,14 +24,6 @@ one_is = refl
 
 -- A PLACE for the atom
 module _ (l n : ℕ) where
-  pub place_low : n < 1 → false ≡ has_place l n
-  unfolding has_place
-  place_low h = sym (and_left_false (within 1 256 n) (leb (4 * n) l) (within_low 1 256 n h))
-
-  pub place_high : 256 < n → false ≡ has_place l n
-  unfolding has_place
-  place_high h = sym (and_left_false (within 1 256 n) (leb (4 * n) l) (within_high 1 256 n h))
-
   pub place_by : 1 ≤ n → n ≤ 256 → leb (4 * n) l ≡ has_place l n
   unfolding has_place
   place_by h k = sym (rw (within_is 1 256 n h k))
@@ -48,15 +37,6 @@ module _ (l n : ℕ) where
   -- room for the numbers from the place on
   pub place_room : has_place l n ≡ true → 4 * (n - 1) + 4 ≤ l
   place_room e = let p = place_told e in omega arith
-
--- FOUR NUMBERS stored one after another
-pub four_put : {A : Type 0} (t : List A) (at : ℕ) (g x y z : A) → at + 4 ≤ length t
-    → set (set (set (set t at g) (at + 1) x) (at + 2) y) (at + 3) z ≡ take at t ++ ((g ∷ x ∷ y ∷ z ∷ []) ++ drop (at + 4) t)
-four_put t at g x y z h =
-    let a : at + 1 ≡ suc at = omega arith in
-    let b : at + 2 ≡ suc (suc at) = omega arith in
-    let c : at + 3 ≡ suc (suc (suc at)) = omega arith in
-    rw (a, b, c) (sets-eq (g ∷ x ∷ y ∷ z ∷ []) t at h ∙ append_assoc (take at t) (g ∷ x ∷ y ∷ z ∷ []) (drop (at + 4) t))
 
 -- WRITTEN
 module _ (t : List Float) (n : ℕ) where
@@ -72,20 +52,13 @@ module _ (t : List Float) (n : ℕ) where
         let q : 4 * (n - 1) + 4 ≡ 4 * n = omega arith in
         ap (λ (k : ℕ). take (4 * (n - 1)) t ++ (position_numbers p ++ drop k t)) q ∙ sym (rw (e, placed))
 
-    pub placed_at : (r : Answer) (x y z : Float) → r ≡ P.At x y z → (u : List Float)
-        → u ≡ take (4 * (n - 1)) t ++ ((of_bits binary64 4607182418800017408 ∷ x ∷ y ∷ z ∷ []) ++ drop (4 * (n - 1) + 4) t) → u ≡ placed t n (shown_position r)
-    placed_at r x y z q u h =
-        h
-        ∙ ap (λ (g : Float). take (4 * (n - 1)) t ++ ((g ∷ x ∷ y ∷ z ∷ []) ++ drop (4 * (n - 1) + 4) t)) one_is
-        ∙ placed_is (At x y z) ∙ ap (λ (s : Answer). placed t n (shown_position s)) (sym q)
+    pub placed_at : (x y z : Float) (u : List Float)
+        → u ≡ take (4 * (n - 1)) t ++ ((of_bits binary64 4607182418800017408 ∷ x ∷ y ∷ z ∷ []) ++ drop (4 * (n - 1) + 4) t) → u ≡ placed t n (At x y z)
+    placed_at x y z u h = h ∙ ap (λ (g : Float). take (4 * (n - 1)) t ++ ((g ∷ x ∷ y ∷ z ∷ []) ++ drop (4 * (n - 1) + 4) t)) one_is ∙ placed_is (At x y z)
 
-    pub placed_not : (r : Answer) → r ≡ P.NotGiven → (u : List Float)
-        → u ≡ take (4 * (n - 1)) t ++ ((of_bits binary64 0 ∷ of_bits binary64 0 ∷ of_bits binary64 0 ∷ of_bits binary64 0 ∷ []) ++ drop (4 * (n - 1) + 4) t)
-        → u ≡ placed t n (shown_position r)
-    placed_not r q u h =
-        h
-        ∙ ap (λ (g : Float). take (4 * (n - 1)) t ++ ((g ∷ g ∷ g ∷ g ∷ []) ++ drop (4 * (n - 1) + 4) t)) nought_is
-        ∙ placed_is NotGiven ∙ ap (λ (s : Answer). placed t n (shown_position s)) (sym q)
+    pub placed_not : (u : List Float)
+        → u ≡ take (4 * (n - 1)) t ++ ((of_bits binary64 0 ∷ of_bits binary64 0 ∷ of_bits binary64 0 ∷ of_bits binary64 0 ∷ []) ++ drop (4 * (n - 1) + 4) t) → u ≡ placed t n NotGiven
+    placed_not u h = h ∙ ap (λ (g : Float). take (4 * (n - 1)) t ++ ((g ∷ g ∷ g ∷ g ∷ []) ++ drop (4 * (n - 1) + 4) t)) nought_is ∙ placed_is NotGiven
 
 -- READ
 module _ (t : List Float) (n : ℕ) where

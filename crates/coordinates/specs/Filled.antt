@@ -8,11 +8,11 @@ use Rattle.coordinates.specs.ShownPositions.{row_position, placed}
 -- the position of an atom among the rows, latest first: `position_in`, wherever rows and factor have their size
 unfoldable pub scaled_in : Factor → List XyzRow → (atom : ℕ) → Position
 scaled_in f [] n = NotGiven
-scaled_in f (r ∷ rs) n = elim (eqb r.atom n) [ true ↦ row_position f r.x r.y r.z | false ↦ scaled_in f rs n ]
+scaled_in f (r ∷ rs) n = elim (eqb r.atom n) [ true ↦ row_position f r | false ↦ scaled_in f rs n ]
 
 unfoldable pub scaled_table : Factor → List XyzRow → List Float
 scaled_table f rs = flat (λ n. position_numbers (scaled_in f rs n)) (count_up 1 256)
 
 -- a table with one row's position written
 abbrev pub placed_row : Factor → List Float → XyzRow → List Float
-placed_row f t r = placed t r.atom (row_position f r.x r.y r.z)
+placed_row f t r = placed t r.atom (row_position f r)

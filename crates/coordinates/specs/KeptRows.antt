@@ -3,7 +3,8 @@
 use Rattle.std.specs.Prelude.{ℕ, zero, suc, ◌+◌, ◌*◌, ◌≤◌, ◌≡◌, Bool, true, false, ◌&&◌, List, [], ◌∷◌, ◌++◌, length, take, drop, ℤ, pos, leb}
 use Rattle.format.specs.Coordinates.{XyzRow}
 use Rattle.format.specs.Table.{cell}
-use Rattle.factor.specs.ShownFactors.{lowered}
+use Rattle.rows.specs.Raised.{lowered}
+use Rattle.rows.specs.declared.xyz.XyzRow.{XyzRow as Raised}
 
 -- whether a store of so many numbers has room for the whole row
 unfoldable pub has_row : (length index : ℕ) → Bool
@@ -22,12 +23,12 @@ rows_in zero w = []
 rows_in (suc n) w = row_at w n ∷ rows_in n w
 
 -- numbers that a row can have: none above 2,000,000
-unfoldable pub modest : (a x y z : ℕ) → Bool
-modest a x y z = leb a 2000000 && (leb x 2000000 && (leb y 2000000 && leb z 2000000))
+unfoldable pub modest : Raised → Bool
+modest r = leb r.atom 2000000 && (leb r.x 2000000 && (leb r.y 2000000 && leb r.z 2000000))
 
 -- the store with one row written; it stays where it has no room for the row, and where no row can have such a number
-unfoldable pub kept : List ℤ → (index a x y z : ℕ) → List ℤ
-kept w i a x y z = elim (has_row (length w) i && modest a x y z) [ true ↦ take (4 * i) w ++ ((pos a ∷ pos x ∷ pos y ∷ pos z ∷ []) ++ drop (4 * suc i) w) | false ↦ w ]
+unfoldable pub kept : List ℤ → (index : ℕ) → Raised → List ℤ
+kept w i r = elim (has_row (length w) i && modest r) [ true ↦ take (4 * i) w ++ ((pos r.atom ∷ pos r.x ∷ pos r.y ∷ pos r.z ∷ []) ++ drop (4 * suc i) w) | false ↦ w ]
 
 -- THE STORE HOLDS THE ROWS, latest first, wherever it has room for all of them
 abbrev pub Stored : List ℤ → List XyzRow → Type 0

@@ -1,21 +1,25 @@
 -- How a position in code is shown as the definitions' one, and an atom's four numbers in the lent table: document 02, L2 ("per atom 1 if given, X, Y, Z; else four
 -- 0"). Assumes nothing.
-use Rattle.std.specs.Prelude.{ℕ, ◌+◌, ◌-◌, ◌*◌, Bool, true, false, ◌&&◌, List, ◌++◌, length, take, drop, get_or, ℤ, pos, leb, Float}
+use Rattle.std.specs.Prelude.{ℕ, ◌+◌, ◌-◌, ◌*◌, Bool, true, false, ◌&&◌, List, ◌++◌, length, take, drop, get_or, pos, leb, Float}
 use Rattle.std.specs.Float.{nan, fin}
 use Rattle.std.specs.Float.Ieee.{eq}
 use Rattle.format.specs.Bytes.{within}
-use Rattle.format.specs.Coordinates.{Factor, Position, At, NotGiven, position_numbers}
+use Rattle.std.specs.declared.option.Option.{Option}
+use Rattle.std.specs.declared.option.Option.TheVariants.{None, Some}
+use Rattle.format.specs.Coordinates.{Factor, XyzRow, Position, At, NotGiven, position_numbers}
 use Rattle.factor.specs.ShownFactors.{scaled}
-use Rattle.coordinates.specs.declared.Position.{Position as Answer}
-use Rattle.coordinates.specs.declared.Position.TheVariants as P
+use Rattle.coordinates.specs.declared.Point.{Point}
 
-abbrev pub shown_position : Answer → Position
-shown_position (P.At x y z) = At x y z
-shown_position P.NotGiven = NotGiven
+abbrev pub shown_point : Point → Position
+shown_point p = At p.x p.y p.z
+
+abbrev pub shown_position : Option Point → Position
+shown_position None = NotGiven
+shown_position (Some p) = shown_point p
 
 -- the position that a row's three whole numbers give
-abbrev pub row_position : Factor → (x y z : ℤ) → Position
-row_position f x y z = At (scaled f x) (scaled f y) (scaled f z)
+abbrev pub row_position : Factor → XyzRow → Position
+row_position f r = At (scaled f r.x) (scaled f r.y) (scaled f r.z)
 
 -- 256 atoms, numbered from 1, four numbers an atom
 unfoldable pub has_place : (length atom : ℕ) → Bool

@@ -6,26 +6,29 @@ pub mod kept; // kept.rt: the rows' whole numbers, kept until the factor is know
 pub mod table; // table.rt: the lent table of 1,024 floats
 
 ghost use Rattle.std.specs.Prelude.{◌≡◌};
-ghost use Rattle.factor.specs.ShownFactors.{factor_of, lowered};
-ghost use Rattle.coordinates.specs.ShownPositions.{shown_position, row_position};
+ghost use Rattle.rows.specs.Raised.{xyz_row_of};
+ghost use Rattle.factor.specs.ShownFactors.{factor_of};
+ghost use Rattle.coordinates.specs.ShownPositions.{shown_point, row_position};
 
 use factor::Factor;
 use factor::scale::coordinate;
+use rows::xyz::XyzRow;
 
-// Three coordinates in Angstrom, or none.
+// Three coordinates in Angstrom: a position that is given.
 #[derive(Clone, Copy)]
-pub enum Position {
-    At(f64, f64, f64),
-    NotGiven,
+pub struct Point {
+    pub x: f64,
+    pub y: f64,
+    pub z: f64,
 }
 
-// The position that a row's three numbers, each 1,000,000 above, give by the factor.
-pub fn row_position(factor: Factor, x: u32, y: u32, z: u32) -> Position
-    ensures { shown_position result ≡ row_position (factor_of factor) (lowered x) (lowered y) (lowered z) }
+// The position that a row's three numbers give by the factor.
+pub fn row_position(factor: Factor, row: XyzRow) -> Point
+    ensures { shown_point result ≡ row_position (factor_of factor) (xyz_row_of row) }
 {
-    Position::At(
-        coordinate(factor, x),
-        coordinate(factor, y),
-        coordinate(factor, z),
-    )
+    Point {
+        x: coordinate(factor, row.x),
+        y: coordinate(factor, row.y),
+        z: coordinate(factor, row.z),
+    }
 }

@@ -3,7 +3,8 @@
 use Prim.Native.Nat.{ℕ, zero, suc, ◌+◌, ◌≤◌, ◌<◌}
 use mathlib.Core.Path.{◌≡◌, refl, sym, ap, ◌∙◌}
 use mathlib.Core.Bool.{Bool, true, false, not, ◌&&◌, ◌||◌}
-use mathlib.Core.Option.{Option, none, some}
+use Rattle.std.specs.declared.option.Option.{Option}
+use Rattle.std.specs.declared.option.Option.TheVariants.{None, Some}
 use mathlib.Core.List.{List, [], ◌∷◌, map, reverse}
 use native.Mathlib.Omega.{arith}
 use lib.ListN.{length}
@@ -43,8 +44,8 @@ good (Read s spans p) = true
 good (Unread n p) = false
 
 is_some : Option State → Bool
-is_some none = false
-is_some (some st) = true
+is_some None = false
+is_some (Some st) = true
 
 good_is : (o : Outcome) → good (reading_of o) ≡ is_some (accepted_as o)
 unfolding is_some
@@ -189,7 +190,7 @@ module _ (k : ℕ) (b : Bytes) where
       let ord : along k (placed k) start lines ≡ true = placed_ordered k lines ∙ not_of_false _ y.labels_ordered in
       let cl : along k closed_at start lines ≡ true = blank_is k lines ∙ y.end_last in
       let m : Molform k b = record { value = y.molform; once = y.molform_once; formula = y.formula; said = y.formula_said; fine = y.formula_fine_lem } in
-      let fo : (afters k start lines).formula ≡ entries_as k (some y.formula) = says_formula ord ∙ molform_entries k b m in
+      let fo : (afters k start lines).formula ≡ entries_as k (Some y.formula) = says_formula ord ∙ molform_entries k b m in
       let at : (afters k start lines).body.atoms ≡ map (atom_of k) (atom_rows b) = says_atoms in
       let ag : agree (afters k start lines).formula (entries_of (afters k start lines).body.atoms) ≡ true =
       every_agree _ _ (λ i. ap (total i) fo ∙ y.totals i ∙ sym (ap (λ (as' : List Atom). total i (entries_of as')) at)) in

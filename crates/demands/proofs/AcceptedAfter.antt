@@ -2,7 +2,8 @@
 -- "Rows". Assumes nothing.
 use Prim.Native.Nat.{ℕ, ◌+◌, ◌-◌}
 use mathlib.Core.Bool.{Bool, true, false}
-use mathlib.Core.Option.{Option, none, some}
+use Rattle.std.specs.declared.option.Option.{Option}
+use Rattle.std.specs.declared.option.Option.TheVariants.{None, Some}
 use mathlib.Core.List.{List, [], ◌∷◌, ◌++◌, map}
 use lib.ListN.{length, get_or}
 use Rattle.lists.specs.Lists.{any}
@@ -31,20 +32,20 @@ abbrev pub add_row : ListOf → State → Row → State
 add_row l st r = chosen (any (meets l r) (rows_of l st.body)) st (with_body st (with_rows l (r ∷ rows_of l st.body) st.body))
 
 abbrev pub add_formula : (k : ℕ) → State → Option (List Counted) → State
-add_formula k st none = st
-add_formula k st (some cs) = with_formula st (entries_as k (some cs))
+add_formula k st None = st
+add_formula k st (Some cs) = with_formula st (entries_as k (Some cs))
 
 abbrev pub add_id : State → Option ℕ → State
-add_id st none = st
-add_id st (some n) = with_body st (with_id n st.body)
+add_id st None = st
+add_id st (Some n) = with_body st (with_id n st.body)
 
 abbrev pub add_greatest : State → Option ℕ → State
-add_greatest st none = st
-add_greatest st (some n) = with_geometry st (geometry n st.geometry.scale st.geometry.rows)
+add_greatest st None = st
+add_greatest st (Some n) = with_geometry st (geometry n st.geometry.scale st.geometry.rows)
 
 abbrev pub add_factor : State → Option Factor → State
-add_factor st none = st
-add_factor st (some f) = with_geometry st (geometry st.geometry.greatest f st.geometry.rows)
+add_factor st None = st
+add_factor st (Some f) = with_geometry st (geometry st.geometry.greatest f st.geometry.rows)
 
 abbrev pub add_xyz : State → XyzRow → State
 add_xyz st r = with_geometry st (geometry st.geometry.greatest st.geometry.scale (r ∷ st.geometry.rows))

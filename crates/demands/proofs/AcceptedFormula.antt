@@ -3,7 +3,8 @@
 use Prim.Native.Nat.{ℕ}
 use mathlib.Core.Path.{◌≡◌, refl, sym, ap, ◌∙◌}
 use mathlib.Core.Bool.{Bool, true, false, not, ◌&&◌, ◌||◌}
-use mathlib.Core.Option.{Option, none, some}
+use Rattle.std.specs.declared.option.Option.{Option}
+use Rattle.std.specs.declared.option.Option.TheVariants.{None, Some}
 use mathlib.Core.List.{List, [], ◌∷◌, ◌++◌}
 use native.Mathlib.Omega.{arith}
 use lib.Dec.{eqb}
@@ -90,8 +91,8 @@ pub record Molform (k : ℕ) (b : Bytes) : Type 0 where
 
 module _ (k : ℕ) (b : Bytes) where
   shape_said : (v : Bytes) → molforms b ≡ v ∷ [] → (o : Option (List Counted)) → formula_shape (strip v) ≡ o → fits (formula_fine k) o ≡ true → Molform k b
-  shape_said v e none f g = torn false g refl
-  shape_said v e (some cs) f g = record { value = v; once = e; formula = cs; said = read_says (strip v) cs f; fine = g }
+  shape_said v e None f g = torn false g refl
+  shape_said v e (Some cs) f g = record { value = v; once = e; formula = cs; said = read_says (strip v) cs f; fine = g }
 
   pub molform_read : along k (placed k) start (cut b) ≡ true → all (named (labels (cut b))) (2 ∷ 3 ∷ 4 ∷ 5 ∷ []) ≡ true → all (formula_passes k) (molforms b) ≡ true → Molform k b
   unfolding start
@@ -106,5 +107,5 @@ module _ (k : ℕ) (b : Bytes) where
     pub molform_passes : all (formula_passes k) (molforms b) ≡ true
     molform_passes = ap (all (formula_passes k)) m.once ∙ all_one (formula_passes k) m.value ∙ ap (fits (formula_fine k)) (says_read m.said) ∙ m.fine
 
-    pub molform_entries : formula_in k b ≡ entries_as k (some m.formula)
+    pub molform_entries : formula_in k b ≡ entries_as k (Some m.formula)
     molform_entries = ap (flat (λ v. entries_as k (formula_shape (strip v)))) m.once ∙ flat_one (λ v. entries_as k (formula_shape (strip v))) m.value ∙ ap (entries_as k) (says_read m.said)

@@ -3,7 +3,8 @@
 use Prim.Native.Nat.{ℕ, ◌≤◌}
 use mathlib.Core.Path.{◌≡◌, refl, sym, ap, ◌∙◌}
 use mathlib.Core.Bool.{Bool, true, false, not, ◌&&◌, ◌||◌, or-false}
-use mathlib.Core.Option.{Option, none, some}
+use Rattle.std.specs.declared.option.Option.{Option}
+use Rattle.std.specs.declared.option.Option.TheVariants.{None, Some}
 use mathlib.Core.List.{List, [], ◌∷◌, ◌++◌, reverse, reverse_aux, map}
 use native.Mathlib.Omega.{arith}
 use lib.ListN.{length}
@@ -32,12 +33,12 @@ use Rattle.demands.proofs.AcceptedOnce.{once_is}
 -- THE GEOMETRY, which its three records alone give
 module _ (k : ℕ) where
   formula_geometry : (st : State) (o : Option (List Counted)) → (add_formula k st o).geometry ≡ st.geometry
-  formula_geometry st none = refl
-  formula_geometry st (some cs) = refl
+  formula_geometry st None = refl
+  formula_geometry st (Some cs) = refl
 
   id_geometry : (st : State) (o : Option ℕ) → (add_id st o).geometry ≡ st.geometry
-  id_geometry st none = refl
-  id_geometry st (some n) = refl
+  id_geometry st None = refl
+  id_geometry st (Some n) = refl
 
   atoms_geometry : (st : State) (rs : List AtomRow) → (add_all (add_atom k) st rs).geometry ≡ st.geometry
   atoms_geometry st rs = all_same (λ (s : State). s.geometry) (add_atom k) (λ s r. refl) st rs
@@ -123,13 +124,13 @@ add_xyzs : (st : State) (rs : List XyzRow) → (add_all add_xyz st rs).geometry.
 add_xyzs st [] = refl
 add_xyzs st (r ∷ rs) = add_xyzs (add_xyz st r) rs
 
-add_part : {B : Type 0} (g : State → B) (st : State) → ((f : Factor) → g (add_factor st (some f)) ≡ g st) → (o : Option Factor) → g (add_factor st o) ≡ g st
-add_part g st e none = refl
-add_part g st e (some f) = e f
+add_part : {B : Type 0} (g : State → B) (st : State) → ((f : Factor) → g (add_factor st (Some f)) ≡ g st) → (o : Option Factor) → g (add_factor st o) ≡ g st
+add_part g st e None = refl
+add_part g st e (Some f) = e f
 
-add_bound : {B : Type 0} (g : State → B) (st : State) → ((n : ℕ) → g (add_greatest st (some n)) ≡ g st) → (o : Option ℕ) → g (add_greatest st o) ≡ g st
-add_bound g st e none = refl
-add_bound g st e (some n) = e n
+add_bound : {B : Type 0} (g : State → B) (st : State) → ((n : ℕ) → g (add_greatest st (Some n)) ≡ g st) → (o : Option ℕ) → g (add_greatest st o) ≡ g st
+add_bound g st e None = refl
+add_bound g st e (Some n) = e n
 
 module _ (k : ℕ) where
   xyz_after_lem : (st : State) (fs : List Bytes) (x : XyzOf) → (xyz_after x st fs).geometry.rows ≡ reverse_aux (by_xyz [] [] (row_on xyz_shape fs) x) st.geometry.rows
@@ -244,12 +245,12 @@ module _ (k : ℕ) where
   scaled p = p.scale
 
   add_greatest_lem : (st : State) (o : Option ℕ) → st.geometry.greatest ≡ 0 → (add_greatest st o).geometry.greatest ≡ first_or 0 (listed o)
-  add_greatest_lem st none e = e
-  add_greatest_lem st (some n) e = refl
+  add_greatest_lem st None e = e
+  add_greatest_lem st (Some n) e = refl
 
   add_factor_lem : (st : State) (o : Option Factor) → st.geometry.scale ≡ factor 0 0 → (add_factor st o).geometry.scale ≡ first_or (factor 0 0) (listed o)
-  add_factor_lem st none e = e
-  add_factor_lem st (some f) e = refl
+  add_factor_lem st None e = e
+  add_factor_lem st (Some f) e = refl
 
   pub greatest_is : (st : State) (ls : List Bytes) → st.geometry.greatest ≡ 0 → along k (placed k) st ls ≡ true → (afters k st ls).geometry.greatest ≡ first_or 0 (flat greatest_on (told st.running ls))
   greatest_is = once_is k (λ s. s.geometry.greatest) greatest_on (first_or 0) greatest_held 14 (record {

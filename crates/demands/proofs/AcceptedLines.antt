@@ -21,7 +21,7 @@ use Rattle.demands.proofs.AcceptedSteps.{along, value_test, on_line, titled_at, 
 use Rattle.demands.proofs.AcceptedState.{after_running, after_seen}
 
 -- THE LABEL ON A LINE is one of the known or that of the skipped: what they all pass it passes
-module _ (p : Label → Bool) (every : all p known ≡ true) (none : p (label "" Skipped 0 0 10) ≡ true) where
+module _ (p : Label → Bool) (every : all p known ≡ true) (None : p (label "" Skipped 0 0 10) ≡ true) where
   abbrev Passed : Line → Type 0
   Passed Plain = Unit {0}
   Passed Unparted = Unit {0}
@@ -29,7 +29,7 @@ module _ (p : Label → Bool) (every : all p known ≡ true) (none : p (label ""
 
   parts_passed : (q : Parts) → Passed (parts_line q)
   parts_passed NoEquals = tt
-  parts_passed (Parted n v) = lookup_passes p (normal n) none known every
+  parts_passed (Parted n v) = lookup_passes p (normal n) None known every
 
   line_passed : (l : Bytes) → Passed (line_of l)
   unfolding line_of

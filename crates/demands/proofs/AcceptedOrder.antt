@@ -69,9 +69,9 @@ line_atoms h b (Labelled x v) e = flat_one atom_on (Value x.holds v) ∙ atoms_n
 
 line_given : {A : Type 0} (f : Told → List A) → ((h : Holds) (b : Bytes) → behind_atoms h ≡ false → (f (Value h b) ≡ []) × (f (Further h b) ≡ []))
     → (h : Holds) (b : Bytes) (line : Line) → behind_atoms (runs_on h line) ≡ false → flat f (told_as h b line) ≡ []
-line_given f none h b Plain e = flat_one f (Further h b) ∙ (none h b e).1
-line_given f none h b Unparted e = flat_nil f
-line_given f none h b (Labelled x v) e = flat_one f (Value x.holds v) ∙ (none x.holds v e).0
+line_given f None h b Plain e = flat_one f (Further h b) ∙ (None h b e).1
+line_given f None h b Unparted e = flat_nil f
+line_given f None h b (Labelled x v) e = flat_one f (Value x.holds v) ∙ (None x.holds v e).0
 
 -- WHAT THE KNOWN LABELS SAY of the records they start
 atoms_high : (l : Bytes) (x : Label) (v : Bytes) → line_of l ≡ Labelled x v → (not (atoms_held x.holds) || eqb x.high 6) ≡ true
@@ -166,7 +166,7 @@ module _ (k : ℕ) where
       neither (x ∷ xs) ys e = let z : ◌≡◌ {A = ℕ} 0 1 = cc in absurd (omega arith)
 
   -- rows of any kind that stand behind the atoms, each tested against the number of atoms
-  module _ {A : Type 0} (f : Told → List A) (none : (h : Holds) (b : Bytes) → behind_atoms h ≡ false → (f (Value h b) ≡ []) × (f (Further h b) ≡ [])) (among : ℕ → A → Bool) where
+  module _ {A : Type 0} (f : Told → List A) (None : (h : Holds) (b : Bytes) → behind_atoms h ≡ false → (f (Value h b) ≡ []) × (f (Further h b) ≡ [])) (among : ℕ → A → Bool) where
     abbrev given_at : State → Bytes → List A
     given_at st b = flat f (told_as st.running b (line_of b))
 
@@ -184,7 +184,7 @@ module _ (k : ℕ) where
       where
         here : (t : Bool) → behind_atoms (runs_on st.running (line_of b)) ≡ t → along k (placed k) (after k st b) ls ≡ true → all (among (atom_count st)) (given_at st b) ≡ all (among (atom_count (afters k (after k st b) ls))) (given_at st b)
         here false e q =
-            let r : given_at st b ≡ [] = line_given f none st.running b (line_of b) e in
+            let r : given_at st b ≡ [] = line_given f None st.running b (line_of b) e in
             ap (all (among (atom_count st))) r ∙ all_nil (among (atom_count st)) ∙ sym (ap (all (among (atom_count (afters k (after k st b) ls)))) r ∙ all_nil (among (atom_count (afters k (after k st b) ls))))
         here true e q =
             let h : behind_atoms (after k st b).running ≡ true = ap behind_atoms (after_running k st b) ∙ e in

@@ -3,7 +3,8 @@
 use Prim.Native.Nat.{ℕ, suc, ◌+◌, ◌≤◌}
 use mathlib.Core.Path.{◌≡◌, refl, sym, ap, ◌∙◌, subst}
 use mathlib.Core.Bool.{Bool, true, false, not, ◌&&◌, ◌||◌}
-use mathlib.Core.Option.{Option, none, some}
+use Rattle.std.specs.declared.option.Option.{Option}
+use Rattle.std.specs.declared.option.Option.TheVariants.{None, Some}
 use mathlib.Core.List.{List, [], ◌∷◌, ◌++◌, map, append-nil, append_assoc, map-append}
 use native.Mathlib.Nat.{add-zero}
 use native.Mathlib.Omega.{arith}
@@ -31,8 +32,8 @@ use Rattle.demands.proofs.AcceptedState.{after_running, after_atoms, after_rows}
 
 -- ONE LINE HAS AT MOST ONE ROW
 few_listed : {A : Type 0} (o : Option A) → length (listed o) ≤ 1
-few_listed none = omega arith
-few_listed (some a) = omega arith
+few_listed None = omega arith
+few_listed (Some a) = omega arith
 
 pub few_on : {A : Type 0} (shape : List Bytes → Option A) (fs : List Bytes) → length (row_on shape fs) ≤ 1
 few_on shape [] = omega arith
@@ -69,8 +70,8 @@ row_all shape test [] = sym (all_nil test)
 row_all shape test (f ∷ fs) = by (shape (f ∷ fs))
   where
     by : (o : Option _) → passing test o ≡ all test (listed o)
-    by none = sym (all_nil test)
-    by (some a) = sym (all_one test a)
+    by None = sym (all_nil test)
+    by (Some a) = sym (all_one test a)
 
 atom_all : (test : AtomRow → Bool) (h : Holds) (l : Bytes) → atom_passes test h l ≡ all test (atom_in h l)
 atom_all test (Text i) l = sym (all_nil test)

@@ -3,7 +3,8 @@
 use Prim.Native.Nat.{ℕ, ◌≤◌}
 use mathlib.Core.Path.{◌≡◌, refl, ap, ◌∙◌}
 use mathlib.Core.Bool.{Bool, true, false, not, ◌&&◌, ◌||◌}
-use mathlib.Core.Option.{Option, none, some}
+use Rattle.std.specs.declared.option.Option.{Option}
+use Rattle.std.specs.declared.option.Option.TheVariants.{None, Some}
 use mathlib.Core.List.{List, [], ◌∷◌, map}
 use native.Mathlib.Omega.{arith}
 use lib.ListN.{length, length-map}
@@ -35,13 +36,13 @@ use Rattle.demands.proofs.AcceptedYes.{beside_none, kept_none}
 use Rattle.demands.proofs.AcceptedSoundShapes.{Shaped, row_shaped, atom_massless, atom_known}
 
 -- a line that keeps its rule: what follows of a row's shape and test holds of the row on it
-fits_all : {A : Type 0} (shape : List Bytes → Option A) (test p : A → Bool) → ((fs : List Bytes) (a : A) → shape fs ≡ some a → test a ≡ true → p a ≡ true) → (fs : List Bytes) → row_fits shape test fs ≡ true → all p (row_on shape fs) ≡ true
+fits_all : {A : Type 0} (shape : List Bytes → Option A) (test p : A → Bool) → ((fs : List Bytes) (a : A) → shape fs ≡ Some a → test a ≡ true → p a ≡ true) → (fs : List Bytes) → row_fits shape test fs ≡ true → all p (row_on shape fs) ≡ true
 fits_all shape test p f [] h = all_nil p
 fits_all shape test p f (w ∷ ws) h = by (shape (w ∷ ws)) refl h
   where
     by : (o : Option _) → shape (w ∷ ws) ≡ o → fits test o ≡ true → all p (listed o) ≡ true
-    by none e g = torn false g refl
-    by (some a) e g = all_one p a ∙ f (w ∷ ws) a e g
+    by None e g = torn false g refl
+    by (Some a) e g = all_one p a ∙ f (w ∷ ws) a e g
 
 module _ (k : ℕ) (p : Told → Bool) (b : Bytes) (fine : all (own_rule k) (told_of b) ≡ true) where
   each_told : ((t : Told) → own_rule k t ≡ true → p t ≡ true) → all p (told_of b) ≡ true
@@ -62,7 +63,7 @@ sized l r = eqb (arity l) 0 || eqb (length r.atoms) (arity l)
 abbrev alone : ListOf → Row → Bool
 alone l r = ranged l r.value && (group_ok l r.group && (sized l r && ascends ltb r.atoms))
 
-ordered_alone : (l : ListOf) (fs : List Bytes) (r : Row) → row_shape l fs ≡ some r → row_fine l r ≡ true → alone l (ordered r) ≡ true
+ordered_alone : (l : ListOf) (fs : List Bytes) (r : Row) → row_shape l fs ≡ Some r → row_fine l r ≡ true → alone l (ordered r) ≡ true
 ordered_alone l fs r e h =
     let s : Shaped l r = row_shaped l fs r e in
     let p : (ranged l r.value ≡ true) × (not (pairs eqb r.atoms) ≡ true) = and_parts (ranged l r.value) _ h in
@@ -138,8 +139,8 @@ abbrev id_good : ℕ → Bool
 id_good n = leb n 999999
 
 number_good : (w : Bytes) (o : Option ℕ) → number w ≡ o → all id_good (listed o) ≡ true
-number_good w none e = all_nil id_good
-number_good w (some n) e = all_one id_good n ∙ le-leb n 999999 (omega (arith, number_bound n w e))
+number_good w None e = all_nil id_good
+number_good w (Some n) e = all_one id_good n ∙ le-leb n 999999 (omega (arith, number_bound n w e))
 
 id_good_lem : (t : Told) → all id_good (id_on t) ≡ true
 id_good_lem (Value (Text i) v) = all_nil id_good

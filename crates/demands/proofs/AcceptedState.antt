@@ -3,7 +3,8 @@
 use Prim.Native.Nat.{ℕ}
 use mathlib.Core.Path.{◌≡◌, refl, sym, ap, ◌∙◌}
 use mathlib.Core.Bool.{Bool, true, false}
-use mathlib.Core.Option.{Option, none, some}
+use Rattle.std.specs.declared.option.Option.{Option}
+use Rattle.std.specs.declared.option.Option.TheVariants.{None, Some}
 use mathlib.Core.List.{List, [], ◌∷◌, ◌++◌, map, append_assoc, append-nil}
 use lib.Dec.{eqb}
 use Rattle.lists.specs.Lists.{any, flat}
@@ -42,13 +43,13 @@ module _ {B : Type 0} (g : State → B) where
     xyz_same MaxXyz st fs = by (number (only_field fs))
       where
         by : (o : Option ℕ) → g (add_greatest st o) ≡ g st
-        by none = refl
-        by (some n) = h st _
+        by None = refl
+        by (Some n) = h st _
     xyz_same XyzFactor st fs = by (factor_shape (only_field fs))
       where
         by : (o : Option Factor) → g (add_factor st o) ≡ g st
-        by none = refl
-        by (some f) = h st _
+        by None = refl
+        by (Some f) = h st _
     xyz_same XyzRows st fs = all_same add_xyz (λ s r. h s _) st (row_on xyz_shape fs)
 
     pub xyz_further_same : (x : XyzOf) (st : State) (fs : List Bytes) → g (xyz_after_further x st fs) ≡ g st
@@ -58,12 +59,12 @@ module _ {B : Type 0} (g : State → B) where
 
   module _ (text : (st : State) (i : ℕ) (t : Prose) → g (with_text st i t) ≡ g st) (formula : (st : State) (es : List Entry) → g (with_formula st es) ≡ g st) (body : (st : State) (s : Structure) → g (with_body st s) ≡ g st) (placing : (st : State) (p : Geometry) → g (with_geometry st p) ≡ g st) (k : ℕ) where
     formula_same : (st : State) (o : Option (List Counted)) → g (add_formula k st o) ≡ g st
-    formula_same st none = refl
-    formula_same st (some cs) = formula st _
+    formula_same st None = refl
+    formula_same st (Some cs) = formula st _
 
     id_same : (st : State) (o : Option ℕ) → g (add_id st o) ≡ g st
-    id_same st none = refl
-    id_same st (some n) = body st _
+    id_same st None = refl
+    id_same st (Some n) = body st _
 
     pub value_same : (h : Holds) (st : State) (from : ℕ) (v : Bytes) → g (after_value k h st from v) ≡ g st
     value_same (Text i) st from v = text st i _
@@ -130,12 +131,12 @@ module _ (k : ℕ) where
   list_atoms m st rs = all_same (λ (s : State). s.body.atoms) (add_row m) (row_same (λ (s : State). s.body.atoms) m (λ s qs. rows_atoms m qs s.body)) st rs
 
   pub formula_body : (st : State) (o : Option (List Counted)) → (add_formula k st o).body ≡ st.body
-  formula_body st none = refl
-  formula_body st (some cs) = refl
+  formula_body st None = refl
+  formula_body st (Some cs) = refl
 
   id_atoms : (st : State) (o : Option ℕ) → (add_id st o).body.atoms ≡ st.body.atoms
-  id_atoms st none = refl
-  id_atoms st (some n) = refl
+  id_atoms st None = refl
+  id_atoms st (Some n) = refl
 
   value_atoms : (h : Holds) (st : State) (from : ℕ) (v : Bytes) → (after_value k h st from v).body.atoms ≡ st.body.atoms ++ map (atom_of k) (atom_in h v)
   value_atoms (Text i) st from v = sym (append-nil st.body.atoms)
@@ -257,8 +258,8 @@ module _ (l : ListOf) where
     atoms_kept st rs = all_same (λ (s : State). rows_of l s.body) (add_atom k) (λ s r. atoms_rows l _ s.body) st rs ∙ none_kept st
 
     id_kept : (st : State) (o : Option ℕ) → rows_of l (add_id st o).body ≡ rows_of l st.body
-    id_kept st none = refl
-    id_kept st (some n) = id_rows l n st.body
+    id_kept st None = refl
+    id_kept st (Some n) = id_rows l n st.body
 
     value_rows : (h : Holds) (st : State) (from : ℕ) (v : Bytes) → rows_of l (after_value k h st from v).body ≡ kept (meets l) (rows_of l st.body) (row_in l h v)
     value_rows (Text i) st from v = none_kept st
@@ -296,12 +297,12 @@ module _ (l : ListOf) where
 -- THE FORMULA, which a MOLFORM value alone gives
 module _ (k : ℕ) where
   add_formula_lem : (st : State) (o : Option (List Counted)) → st.formula ≡ [] → (add_formula k st o).formula ≡ entries_as k o
-  add_formula_lem st none e = e
-  add_formula_lem st (some cs) e = refl
+  add_formula_lem st None e = e
+  add_formula_lem st (Some cs) e = refl
 
   id_formula : (st : State) (o : Option ℕ) → (add_id st o).formula ≡ st.formula
-  id_formula st none = refl
-  id_formula st (some n) = refl
+  id_formula st None = refl
+  id_formula st (Some n) = refl
 
   pub value_formula : (h : Holds) (st : State) (from : ℕ) (v : Bytes) → formula_held h ≡ false → ((after_value k h st from v).formula ≡ st.formula) × (entries_in k h v ≡ [])
   value_formula (Text i) st from v e = (refl, refl)
@@ -350,12 +351,12 @@ rows_id Pairs rs s = refl
 
 module _ (k : ℕ) where
   formula_id : (st : State) (o : Option (List Counted)) → (add_formula k st o).body.id ≡ st.body.id
-  formula_id st none = refl
-  formula_id st (some cs) = refl
+  formula_id st None = refl
+  formula_id st (Some cs) = refl
 
   add_id_lem : (st : State) (o : Option ℕ) → st.body.id ≡ 0 → (add_id st o).body.id ≡ id_as (listed o)
-  add_id_lem st none e = e
-  add_id_lem st (some n) e = refl
+  add_id_lem st None e = e
+  add_id_lem st (Some n) e = refl
 
   atoms_id : (st : State) (rs : List AtomRow) → (add_all (add_atom k) st rs).body.id ≡ st.body.id
   atoms_id st rs = all_same (λ (s : State). s.body.id) (add_atom k) (λ s r. refl) st rs

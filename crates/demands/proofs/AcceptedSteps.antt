@@ -3,7 +3,8 @@
 use Prim.Native.Nat.{ℕ, suc, ◌+◌, ◌-◌}
 use mathlib.Core.Path.{◌≡◌, refl, sym, ap, ◌∙◌}
 use mathlib.Core.Bool.{Bool, true, false, not, ◌&&◌, ◌||◌, or-false, and-true}
-use mathlib.Core.Option.{Option, none, some}
+use Rattle.std.specs.declared.option.Option.{Option}
+use Rattle.std.specs.declared.option.Option.TheVariants.{None, Some}
 use mathlib.Core.List.{List, [], ◌∷◌, map}
 use native.Mathlib.Omega.{arith}
 use lib.ListN.{length, drop}
@@ -28,8 +29,8 @@ use Rattle.demands.proofs.AcceptedAfter.{add_all, add_atom, chosen, add_row, add
 
 -- THE TESTS OF A LINE
 abbrev pub passing : {A : Type 0} → (A → Bool) → Option A → Bool
-passing test none = true
-passing test (some a) = test a
+passing test None = true
+passing test (Some a) = test a
 
 abbrev pub row_passes : {A : Type 0} → (List Bytes → Option A) → (A → Bool) → List Bytes → Bool
 row_passes shape test [] = true
@@ -131,12 +132,12 @@ keeps_as k st l line = all allowed l && (titled_at st l && line_tests k st l lin
 
 -- A TURN THAT GOES ON WHERE A TEST IS PASSED
 abbrev pub when : Bool → State → Option State
-when true st = some st
-when false st = none
+when true st = Some st
+when false st = None
 
 abbrev pub gone_to : Turn → Option State
-gone_to (Go st) = some st
-gone_to (Stop n) = none
+gone_to (Go st) = Some st
+gone_to (Stop n) = None
 
 if_not : (p q : Bool) (n : ℕ) (t : Turn) (st : State) → gone_to t ≡ when q st → gone_to (if not p stop n else t) ≡ when (p && q) st
 if_not true q n t st e = e
@@ -179,8 +180,8 @@ formula_shuffle false b = refl
 module _ (k : ℕ) (st : State) where
   atom_gone : (o : Option AtomRow) → gone_to (atom_turn k st o) ≡ when (fits (atom_fine k) o && (passing (next_atom st) o && (passing (room_at st) o && true))) (add_all (add_atom k) st (listed o))
   unfolding atom_turn
-  atom_gone none = refl
-  atom_gone (some r) =
+  atom_gone None = refl
+  atom_gone (Some r) =
       if_not (mass_ok r.symbol && leb r.hydrogens 15) _ 10 _ _
       (if_not (eqb r.number (suc (atom_count st))) _ 11 _ _ (if_so (unknown k r.symbol) _ 12 _ _ (if_so (leb 256 (atom_count st)) true 14 _ (add_atom k st r) refl)))
       ∙ ap (λ (t : Bool). when t (add_atom k st r)) (atom_shuffle (mass_ok r.symbol && leb r.hydrogens 15) (next_atom st r) (not (unknown k r.symbol)) (room_at st r))
@@ -197,8 +198,8 @@ module _ (k : ℕ) (st : State) where
 
   row_gone : (l : ListOf) (o : Option Row) → gone_to (row_turn l st o) ≡ when (fits (row_fine l) o && (passing (listed_at st l) o && (passing (apart_at st l) o && (passing (held_at st l) o && true)))) (add_all (add_row l) st (map ordered (listed o)))
   unfolding row_turn join_turn
-  row_gone l none = refl
-  row_gone l (some r) =
+  row_gone l None = refl
+  row_gone l (Some r) =
       if_not (ranged l r.value) _ 10 _ _
       (if_not (listed_at st l r) _ 11 _ _
       (if_so (pairs eqb r.atoms) _ 13 _ _
@@ -212,19 +213,19 @@ module _ (k : ℕ) (st : State) where
 
   formula_gone : (o : Option (List Counted)) → gone_to (formula_turn k st o) ≡ when (fits (formula_fine k) o && true) (add_formula k st o)
   unfolding formula_turn
-  formula_gone none = refl
-  formula_gone (some cs) =
-      if_not (all (λ c. mass_ok c.symbol && within 1 9999 c.count) cs) _ 10 _ _ (if_so (any (λ c. unknown k c.symbol) cs) true 12 _ (add_formula k st (some cs)) refl)
-      ∙ ap (λ (t : Bool). when t (add_formula k st (some cs))) (formula_shuffle (all (λ c. mass_ok c.symbol && within 1 9999 c.count) cs) (any (λ c. unknown k c.symbol) cs))
+  formula_gone None = refl
+  formula_gone (Some cs) =
+      if_not (all (λ c. mass_ok c.symbol && within 1 9999 c.count) cs) _ 10 _ _ (if_so (any (λ c. unknown k c.symbol) cs) true 12 _ (add_formula k st (Some cs)) refl)
+      ∙ ap (λ (t : Bool). when t (add_formula k st (Some cs))) (formula_shuffle (all (λ c. mass_ok c.symbol && within 1 9999 c.count) cs) (any (λ c. unknown k c.symbol) cs))
 
   version_gone : (fs : List Bytes) → gone_to (version_turn st fs) ≡ when (version_fine fs && true) st
   unfolding version_turn
   version_gone fs = if_not (version_fine fs) true 7 (Go st) st refl
 
   id_value_lem : (alone : Bool) (o : Option ℕ) → gone_to (id_value st alone o) ≡ when (fits (λ n. alone && not (eqb n 0)) o && true) (add_id st o)
-  id_value_lem alone none = refl
-  id_value_lem alone (some n) =
-      if_not alone _ 9 _ _ (if_so (eqb n 0) true 10 _ (add_id st (some n)) refl) ∙ ap (λ (t : Bool). when t (add_id st (some n))) (formula_shuffle alone (eqb n 0))
+  id_value_lem alone None = refl
+  id_value_lem alone (Some n) =
+      if_not alone _ 9 _ _ (if_so (eqb n 0) true 10 _ (add_id st (Some n)) refl) ∙ ap (λ (t : Bool). when t (add_id st (Some n))) (formula_shuffle alone (eqb n 0))
 
   id_gone : (fs : List Bytes) → gone_to (id_turn st fs) ≡ when (id_fine fs && true) (add_id st (number (field 0 fs)))
   unfolding id_turn
@@ -232,18 +233,18 @@ module _ (k : ℕ) (st : State) where
 
   greatest_gone : (o : Option ℕ) → gone_to (greatest_turn st o) ≡ when (fits (λ n. true) o && true) (add_greatest st o)
   unfolding greatest_turn
-  greatest_gone none = refl
-  greatest_gone (some n) = refl
+  greatest_gone None = refl
+  greatest_gone (Some n) = refl
 
   factor_gone : (o : Option Factor) → gone_to (factor_turn st o) ≡ when (fits (λ f. not (eqb f.digits 0)) o && true) (add_factor st o)
   unfolding factor_turn
-  factor_gone none = refl
-  factor_gone (some f) = if_so (eqb f.digits 0) true 10 _ (add_factor st (some f)) refl
+  factor_gone None = refl
+  factor_gone (Some f) = if_so (eqb f.digits 0) true 10 _ (add_factor st (Some f)) refl
 
   xyz_gone : (o : Option XyzRow) → gone_to (xyz_turn st o) ≡ when (fits (λ r. true) o && (passing (xyz_listed_at st) o && (passing (xyz_above_at st) o && true))) (add_all add_xyz st (listed o))
   unfolding xyz_turn
-  xyz_gone none = refl
-  xyz_gone (some r) =
+  xyz_gone None = refl
+  xyz_gone (Some r) =
       if_not (xyz_listed_at st r) _ 11 _ _ (if_so (any (λ q. leb r.atom q.atom) st.geometry.rows) true 13 _ (add_xyz st r) refl)
 
   xyzs_gone : (fs : List Bytes) → gone_to (xyz_line st fs) ≡ when (row_fits xyz_shape (λ r. true) fs && (row_passes xyz_shape (xyz_listed_at st) fs && (row_passes xyz_shape (xyz_above_at st) fs && true))) (add_all add_xyz st (row_on xyz_shape fs))
@@ -256,8 +257,8 @@ module _ (k : ℕ) (st : State) where
   yes_gone fs = by (same (only_field fs) (bytes "YES")) st.body.handed
     where
       by : (t h : Bool) → gone_to (if h || not t stop 9 else Go (with_body st (with_yes st.body)))
-          ≡ when (fits {A = Yes} (λ y. true) (elim t as (λ (u : Bool). Option Yes) [ true ↦ some YES | false ↦ none ]) && (passing {A = Yes} (λ y. not h) (elim t as (λ (u : Bool). Option Yes) [ true ↦ some YES | false ↦ none ]) && true))
-          (add_all add_yes st (listed (elim t as (λ (u : Bool). Option Yes) [ true ↦ some YES | false ↦ none ])))
+          ≡ when (fits {A = Yes} (λ y. true) (elim t as (λ (u : Bool). Option Yes) [ true ↦ Some YES | false ↦ None ]) && (passing {A = Yes} (λ y. not h) (elim t as (λ (u : Bool). Option Yes) [ true ↦ Some YES | false ↦ None ]) && true))
+          (add_all add_yes st (listed (elim t as (λ (u : Bool). Option Yes) [ true ↦ Some YES | false ↦ None ])))
       by true true = refl
       by true false = refl
       by false true = refl
@@ -354,8 +355,8 @@ keeps k st l = keeps_as k st l (line_of l)
 
 -- THE READING is accepted exactly when every line passes and END was reached; and then its last state is the one after all lines
 abbrev pub accepted_as : Outcome → Option State
-accepted_as (Accepted st) = some st
-accepted_as (Refused n p) = none
+accepted_as (Accepted st) = Some st
+accepted_as (Refused n p) = None
 
 module _ (k : ℕ) where
   ending_is : (o e : Bool) (st : State) → accepted_as (ending o e st) ≡ when o st
@@ -374,13 +375,13 @@ module _ (k : ℕ) where
           → accepted_as (read_lines (strict k) st (l ∷ ls))
           ≡ when ((keeps k st l && along k (keeps k) (past l (after_as k st l (line_of l))) ls) && over (afters k (past l (after_as k st l (line_of l))) ls).running) (afters k (past l (after_as k st l (line_of l))) ls)
       by (Go next) true e f g ih =
-          let q : some next ≡ some (after_as k st l (line_of l)) = ap gone_to (sym e) ∙ g ∙ ap (λ (t : Bool). when t (after_as k st l (line_of l))) f in
+          let q : Some next ≡ Some (after_as k st l (line_of l)) = ap gone_to (sym e) ∙ g ∙ ap (λ (t : Bool). when t (after_as k st l (line_of l))) f in
           let r : next ≡ after_as k st l (line_of l) = cc in
           ap accepted_as (read_go (strict k) st next l ls e) ∙ ap (λ (s : State). accepted_as (read_lines (strict k) (past l s) ls)) r ∙ ih ∙ rw f
       by (Go next) false e f g ih =
-          let q : some next ≡ none = ap gone_to (sym e) ∙ g ∙ ap (λ (t : Bool). when t (after_as k st l (line_of l))) f in let z : ◌≡◌ {A = ℕ} 0 1 = cc in absurd (omega arith)
+          let q : Some next ≡ None = ap gone_to (sym e) ∙ g ∙ ap (λ (t : Bool). when t (after_as k st l (line_of l))) f in let z : ◌≡◌ {A = ℕ} 0 1 = cc in absurd (omega arith)
       by (Stop n) true e f g ih =
-          let q : none ≡ some (after_as k st l (line_of l)) = ap gone_to (sym e) ∙ g ∙ ap (λ (t : Bool). when t (after_as k st l (line_of l))) f in let z : ◌≡◌ {A = ℕ} 0 1 = cc in absurd (omega arith)
+          let q : None ≡ Some (after_as k st l (line_of l)) = ap gone_to (sym e) ∙ g ∙ ap (λ (t : Bool). when t (after_as k st l (line_of l))) f in let z : ◌≡◌ {A = ℕ} 0 1 = cc in absurd (omega arith)
       by (Stop n) false e f g ih = ap accepted_as (read_stop (strict k) st n l ls e) ∙ rw f
 
   -- tests that are passed together

@@ -3,7 +3,8 @@
 use Prim.Native.Nat.{ℕ, ◌+◌, ◌-◌, ◌<◌}
 use mathlib.Core.Path.{◌≡◌, refl, sym, ap, ◌∙◌}
 use mathlib.Core.Bool.{Bool, true, false, not, ◌||◌}
-use mathlib.Core.Option.{Option, none, some}
+use Rattle.std.specs.declared.option.Option.{Option}
+use Rattle.std.specs.declared.option.Option.TheVariants.{None, Some}
 use mathlib.Core.List.{List, [], ◌∷◌, ◌++◌, map, append-nil, append_assoc}
 use native.Mathlib.Omega.{arith}
 use lib.ListN.{length, get_or, set, length-set, drop}
@@ -30,12 +31,12 @@ use Rattle.demands.proofs.AcceptedOnce.{seen_barred}
 -- WHAT IS NO TEXT leaves the texts
 module _ (k : ℕ) where
   texts_formula : (st : State) (o : Option (List Counted)) → (add_formula k st o).texts ≡ st.texts
-  texts_formula st none = refl
-  texts_formula st (some cs) = refl
+  texts_formula st None = refl
+  texts_formula st (Some cs) = refl
 
   texts_id : (st : State) (o : Option ℕ) → (add_id st o).texts ≡ st.texts
-  texts_id st none = refl
-  texts_id st (some n) = refl
+  texts_id st None = refl
+  texts_id st (Some n) = refl
 
   texts_atoms : (st : State) (rs : List AtomRow) → (add_all (add_atom k) st rs).texts ≡ st.texts
   texts_atoms st rs = all_same (λ (s : State). s.texts) (add_atom k) (λ s r. refl) st rs

@@ -3,7 +3,8 @@
 use Prim.Native.Nat.{ℕ, ◌≤◌}
 use mathlib.Core.Path.{◌≡◌, refl, sym, ap, ◌∙◌, subst}
 use mathlib.Core.Bool.{Bool, true, false, not, ◌&&◌, ◌||◌, or-false}
-use mathlib.Core.Option.{Option, none, some}
+use Rattle.std.specs.declared.option.Option.{Option}
+use Rattle.std.specs.declared.option.Option.TheVariants.{None, Some}
 use mathlib.Core.List.{List, [], ◌∷◌, ◌++◌, map}
 use native.Mathlib.Omega.{arith}
 use lib.ListN.{length}
@@ -52,8 +53,8 @@ module _ (k : ℕ) where
   none_handed st t e = e ∙ sym (or-false st.body.handed)
 
   id_handed : (st : State) (o : Option ℕ) → (add_id st o).body.handed ≡ st.body.handed
-  id_handed st none = refl
-  id_handed st (some n) = refl
+  id_handed st None = refl
+  id_handed st (Some n) = refl
 
   value_yes : (h : Holds) (st : State) (from : ℕ) (v : Bytes) → (after_value k h st from v).body.handed ≡ (st.body.handed || not (is_nil (yes_in h v)))
   value_yes (Text i) st from v = none_handed st _ refl

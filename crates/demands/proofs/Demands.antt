@@ -4,7 +4,7 @@ use Prim.Native.Nat.{ℕ, ◌+◌, ◌*◌, ◌^◌, ◌≤◌, ◌<◌}
 use mathlib.Core.Path.{◌≡◌}
 use mathlib.Core.Bool.{true, false}
 use mathlib.Core.Logic.{◌⊎◌}
-use mathlib.Core.Option.{some}
+use Rattle.std.specs.declared.option.Option.TheVariants.{Some}
 use mathlib.Core.List.{List, [], ◌∷◌, ◌++◌, map}
 use lib.ListN.{length, get_or, drop, replicate}
 use lib.IntN.{ℤ, pos, nat_abs, ◌*ℤ◌}
@@ -89,7 +89,7 @@ table_is = read.table_is
 
 -- "MOLFORM: entries of a symbol and an optional count ..": the machine that reads a formula gives a list of entries exactly when the grammar says that list of its
 -- bytes; and the grammar says no two lists of them
-pub formula_grammar : (v : Bytes) (cs : List Counted) → (formula_shape v ≡ some cs) exactly_when Says v cs
+pub formula_grammar : (v : Bytes) (cs : List Counted) → (formula_shape v ≡ Some cs) exactly_when Says v cs
 formula_grammar = grammar.formula_grammar
 
 pub formula_once : (v : Bytes) (cs ds : List Counted) → Says v cs → Says v ds → cs ≡ ds
@@ -267,7 +267,7 @@ accepted_texts = told.accepted_texts
 pub refused_texts : (k : ℕ) (b : Bytes) → (Obeys k b → ⊥) → texts_told (told_of k block b) ≡ [] ∷ [] ∷ [] ∷ []
 refused_texts = told.refused_texts
 
-pub texts_told_lem : (k : ℕ) (s : Bytes) → 1 ≤ k → (l : List Answer) → answers k s ≡ some l → map (λ a. texts_told a.told) l ≡ map (λ a. texts_from a.of.from s a.told) l
+pub texts_told_lem : (k : ℕ) (s : Bytes) → 1 ≤ k → (l : List Answer) → answers k s ≡ Some l → map (λ a. texts_told a.told) l ≡ map (λ a. texts_from a.of.from s a.told) l
 texts_told_lem = told.texts_told_lem
 
 -- "No block without an END line is accepted."
@@ -290,7 +290,7 @@ pub strays_untitled : (s : Bytes) → any (title_in_stray s) (pieces s) ≡ fals
 strays_untitled = strays.strays_untitled
 
 -- the neon block, the line `junk`, the block with `2 Ne` and a lone TITLE line give the four lines of document 01
-pub example_walked : printed_all (answers 103 example_file) ≡ some example_lines
+pub example_walked : printed_all (answers 103 example_file) ≡ Some example_lines
 example_walked = worked.example_walked
 
 -- THE DEMANDS AT THE 103 ELEMENTS OF TODAY: each demand's theorems above, as one, with nothing asked of the number of elements

@@ -21,7 +21,7 @@ use Rattle.format.specs.Labels.{Bonds}
 use Rattle.format.specs.Rows.{Row}
 use Rattle.format.specs.Structure.{Isotope, Atom, Entry, entries_of, total, Structure, row_ok, joins, united, lowest_of, joined_by, lowest, group_of, groups}
 use Rattle.format.proofs.ByteLaws.{within_is, within_true}
-use Rattle.format.proofs.GroupLaws.{Ends, bond_ends, lower, lower_left, lower_right, lower_view, min_view, united_at, joined_not, joined_is, lowest_nil, lowest_cons, Lows, Level, Levels, none, more, known}
+use Rattle.format.proofs.GroupLaws.{Ends, bond_ends, lower, lower_left, lower_right, lower_view, min_view, united_at, joined_not, joined_is, lowest_nil, lowest_cons, Lows, Level, Levels, None, more, known}
 use Rattle.format.proofs.TotalLaws.{total_nil, total_append, entries_append}
 use Rattle.demands.specs.Groups.{joining, joins_both, bonded, Joined, here, along}
 
@@ -76,7 +76,7 @@ ends_across n ls r ok level a b e = by (bond_ends n r ok) (same r.atoms (a ∷ b
     by k false f = let c = pair b a (or_other (same r.atoms (a ∷ b ∷ [])) (same r.atoms (b ∷ a ∷ [])) found.1 f) k in (c.1, c.0, sym c.2)
 
 across : (n : ℕ) (ls : List ℕ) {rs : List Row} → all (row_ok Bonds n) rs ≡ true → Levels ls rs → (a b : ℕ) → bonded rs a b ≡ true → Across n ls a b
-across n ls ok none a b e = torn (bonded [] a b) e (any_nil (joins_both a b))
+across n ls ok None a b e = torn (bonded [] a b) e (any_nil (joins_both a b))
 across n ls ok (more r rs l m) a b e = by (joins_both a b r) refl (all_parts (row_ok Bonds n) r rs ok) (λ h. across n ls h m a b)
   where
     by : (t : Bool) → joins_both a b r ≡ t → (row_ok Bonds n r ≡ true) × (all (row_ok Bonds n) rs ≡ true) → (all (row_ok Bonds n) rs ≡ true → bonded rs a b ≡ true → Across n ls a b) → Across n ls a b

@@ -3,7 +3,8 @@
 use Prim.Native.Nat.{ℕ, suc, ◌-◌, ◌^◌, ◌≤◌, ◌<◌}
 use mathlib.Core.Path.{◌≡◌, refl, sym, ap, ◌∙◌}
 use mathlib.Core.Bool.{Bool, true, false, ◌&&◌}
-use mathlib.Core.Option.{Option, none, some}
+use Rattle.std.specs.declared.option.Option.{Option}
+use Rattle.std.specs.declared.option.Option.TheVariants.{None, Some}
 use mathlib.Core.List.{List, [], ◌∷◌, ◌++◌}
 use native.Mathlib.Omega.{arith}
 use lib.ListN.{length, take, drop, length-append, length-drop}
@@ -29,28 +30,28 @@ use Rattle.demands.proofs.AcceptedSoundShapes.{none_some, some_same}
 abbrev small : ℤ → Bool
 small v = leb (nat_abs v) 999999
 
-natural_small : (w : Bytes) (v : ℤ) → natural w ≡ some v → small v ≡ true
+natural_small : (w : Bytes) (v : ℤ) → natural w ≡ Some v → small v ≡ true
 unfolding natural
 natural_small w v e = by (number w) refl e
   where
-    by : (o : Option ℕ) → number w ≡ o → (o and_then λ n. some (pos n)) ≡ some v → small v ≡ true
-    by none q h = none_some v h
-    by (some n) q h = ap small (sym (some_same (pos n) v h)) ∙ le-leb n 999999 (omega (arith, number_bound n w q))
+    by : (o : Option ℕ) → number w ≡ o → (o and_then λ n. Some (pos n)) ≡ Some v → small v ≡ true
+    by None q h = none_some v h
+    by (Some n) q h = ap small (sym (some_same (pos n) v h)) ∙ le-leb n 999999 (omega (arith, number_bound n w q))
 
-negative_small : (w : Bytes) (v : ℤ) → negative w ≡ some v → small v ≡ true
+negative_small : (w : Bytes) (v : ℤ) → negative w ≡ Some v → small v ≡ true
 unfolding negative
 negative_small w v e = by (number w) refl e
   where
-    by : (o : Option ℕ) → number w ≡ o → (o and_then λ n. some (neg_ℤ (pos n))) ≡ some v → small v ≡ true
-    by none q h = none_some v h
-    by (some n) q h = ap small (sym (some_same (neg_ℤ (pos n)) v h)) ∙ ap (λ (m : ℕ). leb m 999999) (abs_neg n) ∙ le-leb n 999999 (omega (arith, number_bound n w q))
+    by : (o : Option ℕ) → number w ≡ o → (o and_then λ n. Some (neg_ℤ (pos n))) ≡ Some v → small v ≡ true
+    by None q h = none_some v h
+    by (Some n) q h = ap small (sym (some_same (neg_ℤ (pos n)) v h)) ∙ ap (λ (m : ℕ). leb m 999999) (abs_neg n) ∙ le-leb n 999999 (omega (arith, number_bound n w q))
 
-signed_small : (w : Bytes) (v : ℤ) → signed w ≡ some v → small v ≡ true
+signed_small : (w : Bytes) (v : ℤ) → signed w ≡ Some v → small v ≡ true
 unfolding signed
 signed_small [] v e = none_some v e
 signed_small (b ∷ w) v e = by (eqb b 43) (eqb b 45) e
   where
-    by : (p q : Bool) → elim p as (λ (t : Bool). Option ℤ) [ true ↦ natural w | false ↦ elim q as (λ (t : Bool). Option ℤ) [ true ↦ negative w | false ↦ natural (b ∷ w) ] ] ≡ some v → small v ≡ true
+    by : (p q : Bool) → elim p as (λ (t : Bool). Option ℤ) [ true ↦ natural w | false ↦ elim q as (λ (t : Bool). Option ℤ) [ true ↦ negative w | false ↦ natural (b ∷ w) ] ] ≡ Some v → small v ≡ true
     by true q h = natural_small w v h
     by false true h = negative_small w v h
     by false false h = natural_small (b ∷ w) v h
@@ -59,25 +60,25 @@ signed_small (b ∷ w) v e = by (eqb b 43) (eqb b 45) e
 abbrev small_row : XyzRow → Bool
 small_row r = small r.x && (small r.y && small r.z)
 
-row_small_lem : (fs : List Bytes) (r : XyzRow) → xyz_shape fs ≡ some r → small_row r ≡ true
+row_small_lem : (fs : List Bytes) (r : XyzRow) → xyz_shape fs ≡ Some r → small_row r ≡ true
 unfolding xyz_shape
 row_small_lem fs r e = by (number (field 0 fs)) (signed (field 1 fs)) (signed (field 2 fs)) (signed (field 3 fs)) (optional nothing_more (drop 4 fs)) refl refl refl e
   where
     by : (a : Option ℕ) (b c d : Option ℤ) (o : Option ℕ) → signed (field 1 fs) ≡ b → signed (field 2 fs) ≡ c → signed (field 3 fs) ≡ d
-        → (a and_then λ n. b and_then λ x. c and_then λ y. d and_then λ z. o and_then λ m. some (record { atom = n; x = x; y = y; z = z })) ≡ some r → small_row r ≡ true
-    by none b c d o p q s h = none_some r h
-    by (some n) none c d o p q s h = none_some r h
-    by (some n) (some x) none d o p q s h = none_some r h
-    by (some n) (some x) (some y) none o p q s h = none_some r h
-    by (some n) (some x) (some y) (some z) none p q s h = none_some r h
-    by (some n) (some x) (some y) (some z) (some m) p q s h =
+        → (a and_then λ n. b and_then λ x. c and_then λ y. d and_then λ z. o and_then λ m. Some (record { atom = n; x = x; y = y; z = z })) ≡ Some r → small_row r ≡ true
+    by None b c d o p q s h = none_some r h
+    by (Some n) None c d o p q s h = none_some r h
+    by (Some n) (Some x) None d o p q s h = none_some r h
+    by (Some n) (Some x) (Some y) None o p q s h = none_some r h
+    by (Some n) (Some x) (Some y) (Some z) None p q s h = none_some r h
+    by (Some n) (Some x) (Some y) (Some z) (Some m) p q s h =
         ap small_row (sym (some_same (record { atom = n; x = x; y = y; z = z }) r h))
         ∙ and_both (small x) (small y && small z) (signed_small (field 1 fs) x p) (and_both (small y) (small z) (signed_small (field 2 fs) y q) (signed_small (field 3 fs) z s))
 
 -- what every one that has a shape passes, all that a block lists pass
-listed_all : {A : Type 0} (p : A → Bool) (o : Option A) → ((a : A) → o ≡ some a → p a ≡ true) → all p (listed o) ≡ true
-listed_all p none f = all_nil p
-listed_all p (some a) f = all_one p a ∙ f a refl
+listed_all : {A : Type 0} (p : A → Bool) (o : Option A) → ((a : A) → o ≡ Some a → p a ≡ true) → all p (listed o) ≡ true
+listed_all p None f = all_nil p
+listed_all p (Some a) f = all_one p a ∙ f a refl
 
 flat_all : {A B : Type 0} (p : B → Bool) (f : A → List B) → ((x : A) → all p (f x) ≡ true) → (xs : List A) → all p (flat f xs) ≡ true
 flat_all p f h [] = ap (all p) (flat_nil f) ∙ all_nil p
@@ -94,16 +95,16 @@ rows_small b = flat_all small_row (λ l. row_on xyz_shape (fields (strip l))) (�
 abbrev small_factor : Factor → Bool
 small_factor f = leb f.digits 999999999 && leb f.decimals 9
 
-factor_small : (w : Bytes) (f : Factor) → factor_shape w ≡ some f → small_factor f ≡ true
+factor_small : (w : Bytes) (f : Factor) → factor_shape w ≡ Some f → small_factor f ≡ true
 unfolding factor_shape
 factor_small w f e = by (digits_of 9 (take n w ++ drop (suc n) w)) refl e
   where
     n : ℕ
     n = span unpointed w
 
-    by : (o : Option ℕ) → digits_of 9 (take (span unpointed w) w ++ drop (suc (span unpointed w)) w) ≡ o → (o and_then λ m. some (factor m (length w - suc (span unpointed w)))) ≡ some f → small_factor f ≡ true
-    by none q h = none_some f h
-    by (some m) q h =
+    by : (o : Option ℕ) → digits_of 9 (take (span unpointed w) w ++ drop (suc (span unpointed w)) w) ≡ o → (o and_then λ m. Some (factor m (length w - suc (span unpointed w)))) ≡ Some f → small_factor f ≡ true
+    by None q h = none_some f h
+    by (Some m) q h =
         let j : ℕ = span unpointed w in
         let b : (0 < length (take j w ++ drop (suc j) w)) × (length (take j w ++ drop (suc j) w) ≤ 9) × (m < 10 ^ 9) = digits_of_bound 9 m (take j w ++ drop (suc j) w) q in
         ap small_factor (sym (some_same (factor m (length w - suc j)) f h))

@@ -3,7 +3,7 @@
 use Prim.Native.Nat.{ℕ}
 use mathlib.Core.Path.{◌≡◌, refl, sym, ap, ◌∙◌}
 use mathlib.Core.Bool.{Bool, true, false, ◌&&◌}
-use mathlib.Core.Option.{some}
+use Rattle.std.specs.declared.option.Option.TheVariants.{Some}
 use mathlib.Core.List.{List, [], map}
 use native.Mathlib.Omega.{arith}
 use lib.ListN.{length}
@@ -39,7 +39,7 @@ finished_is : (s : Structure) → finished s ≡ built s.atoms (λ l. sort row_b
 unfolding finished rows_of
 finished_is s = refl
 
-accepted_as_lem : (o : Outcome) (st : State) → accepted_as o ≡ some st → o ≡ Accepted st
+accepted_as_lem : (o : Outcome) (st : State) → accepted_as o ≡ Some st → o ≡ Accepted st
 accepted_as_lem (Accepted s) st e = let q : s ≡ st = cc in ap Accepted q
 accepted_as_lem (Refused n p) st e = let z : ◌≡◌ {A = ℕ} 0 1 = cc in absurd (omega arith)
 

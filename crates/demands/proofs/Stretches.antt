@@ -3,7 +3,7 @@
 use Prim.Native.Nat.{ℕ, zero, suc, ◌+◌, ◌-◌, ◌≤◌, ◌<◌}
 use mathlib.Core.Path.{◌≡◌, refl, sym, ap, ◌∙◌}
 use mathlib.Core.Bool.{Bool, true, false, ◌&&◌}
-use mathlib.Core.Option.{some}
+use Rattle.std.specs.declared.option.Option.TheVariants.{Some}
 use mathlib.Core.List.{List, [], ◌∷◌, ◌++◌, append_assoc, append-nil}
 use native.Mathlib.Nat.{zero-add}
 use native.Mathlib.Omega.{arith}
@@ -288,7 +288,7 @@ module _ (k : ℕ) where
         ∙ told_append s (pieces a) _ ∙ ap (λ (r : List Answer). answered k s (pieces a) ++ r) (told_append s (shift (length a) (pieces b)) _)
         ∙ rw (one, two, three)
 
-  answers_short : (s : Bytes) → length s ≤ 16777216 → answers k s ≡ some (answered k s (pieces s))
+  answers_short : (s : Bytes) → length s ≤ 16777216 → answers k s ≡ Some (answered k s (pieces s))
   unfolding answers
   answers_short s h = rw (le-ltb 16777216 (length s) h, answers)
 
@@ -341,7 +341,7 @@ pub three_stretches : (k : ℕ) (a b c : Bytes) → length (a ++ (b ++ c)) ≤ 1
 three_stretches k a b c h x y z =
     let q : length (a ++ (b ++ c)) ≡ length a + (length b + length c) = length-append a (b ++ c) ∙ ap (λ (n : ℕ). length a + n) (length-append b c) in
     rw (answers_short k a (omega arith), answers_short k b (omega arith), answers_short k c (omega arith))
-    (answers_short k (a ++ (b ++ c)) h ∙ ap some (told_three k a b c (closed_by a x) y z))
+    (answers_short k (a ++ (b ++ c)) h ∙ ap Some (told_three k a b c (closed_by a x) y z))
 
 -- the hypotheses are met, by stretches none of which is empty
 pub met : (length (bytes neon ++ (bytes wrong_neon ++ bytes neon)) ≤ 16777216) × (closing (bytes neon) ≡ true) × (whole (bytes wrong_neon) ≡ true) × (opening (bytes neon) ≡ true)

@@ -3,7 +3,7 @@
 use Prim.Native.Nat.{ℕ, zero, suc, ◌+◌, ◌-◌, ◌≤◌}
 use mathlib.Core.Path.{◌≡◌, refl, sym, ap, ◌∙◌, subst}
 use mathlib.Core.Bool.{Bool, true, false}
-use mathlib.Core.Option.{none, some}
+use Rattle.std.specs.declared.option.Option.TheVariants.{None, Some}
 use mathlib.Core.List.{List, [], ◌∷◌, ◌++◌, map}
 use native.Mathlib.Omega.{arith}
 use lib.ListN.{length, take, drop, take-append-drop}
@@ -91,11 +91,11 @@ module _ (k : ℕ) (s : Bytes) (one : 1 ≤ k) where
   pieces_texts [] = refl
   pieces_texts (p ∷ ps) = rw (piece_texts p.kind p, pieces_texts ps)
 
-  pub texts_told_lem : (l : List Answer) → answers k s ≡ some l → map (λ a. texts_told a.told) l ≡ map (λ a. texts_from a.of.from s a.told) l
+  pub texts_told_lem : (l : List Answer) → answers k s ≡ Some l → map (λ a. texts_told a.told) l ≡ map (λ a. texts_from a.of.from s a.told) l
   unfolding answers
   texts_told_lem l e = by (ltb 16777216 (length s)) e
     where
-      by : (long : Bool) → elim long [ true ↦ none | false ↦ some (answered k s (pieces s)) ] ≡ some l → map (λ a. texts_told a.told) l ≡ map (λ a. texts_from a.of.from s a.told) l
+      by : (long : Bool) → elim long [ true ↦ None | false ↦ Some (answered k s (pieces s)) ] ≡ Some l → map (λ a. texts_told a.told) l ≡ map (λ a. texts_from a.of.from s a.told) l
       by true e = let z : ◌≡◌ {A = ℕ} 0 1 = cc in absurd (omega arith)
       by false e =
           let q : answered k s (pieces s) ≡ l = cc in

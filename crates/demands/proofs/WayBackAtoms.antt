@@ -2,7 +2,7 @@
 use Prim.Native.Nat.{ℕ, suc, ◌+◌, ◌≤◌, ◌<◌}
 use mathlib.Core.Path.{◌≡◌, refl, sym, ap, ◌∙◌}
 use mathlib.Core.Bool.{Bool, true, false, not, ◌&&◌}
-use mathlib.Core.Option.{some}
+use Rattle.std.specs.declared.option.Option.TheVariants.{Some}
 use mathlib.Core.List.{List, [], ◌∷◌, ◌++◌, append_assoc, append-nil}
 use native.Mathlib.Omega.{arith}
 use native.Mathlib.Nat.{add-zero}
@@ -45,7 +45,7 @@ module _ (u : Rules) (most : u.elements ≤ 103) (seen : List Label) (begun : is
     fine : FineAtom u.elements a
     fine = atom_fine_lem u.elements a ok
 
-    atom_taken : atom_turn u.elements (behind at done) (some read) ≡ Go (behind at (done ++ (a ∷ [])))
+    atom_taken : atom_turn u.elements (behind at done) (Some read) ≡ Go (behind at (done ++ (a ∷ [])))
     unfolding atom_turn
     atom_taken =
         let k : ℕ = u.elements in

@@ -3,7 +3,7 @@
 use Prim.Native.Nat.{ℕ, zero, suc, ◌+◌, ◌*◌, ◌≤◌, ◌<◌}
 use mathlib.Core.Path.{◌≡◌, refl, sym, ap, ◌∙◌, subst}
 use mathlib.Core.Bool.{Bool, true, false, not, ◌&&◌}
-use mathlib.Core.Option.{some}
+use Rattle.std.specs.declared.option.Option.TheVariants.{Some}
 use mathlib.Core.List.{List, [], ◌∷◌, ◌++◌, map, map-append}
 use native.Mathlib.Omega.{arith}
 use lib.ListN.{length}
@@ -222,9 +222,9 @@ module _ (k : ℕ) (most : k ≤ 103) (one : 1 ≤ k) where
       ap (flat members) (flat_cons (λ h. fragment (counts_of h)) g gs) ∙ flat_append members (fragment (counts_of g)) (fragments_of gs)
       ∙ ap (λ (r : List Counted). r ++ flat members (fragments_of gs)) (fragment_members (counts_of g)) ∙ ap (λ (r : List Counted). counts_of g ++ r) (members_are gs) ∙ sym (flat_cons counts_of g gs)
 
-  formula_read : (fs : List Fragment) → AllPrint fs → 0 < length fs → formula_shape (strip (valued (print_formula fs))) ≡ some (flat members fs)
+  formula_read : (fs : List Fragment) → AllPrint fs → 0 < length fs → formula_shape (strip (valued (print_formula fs))) ≡ Some (flat members fs)
   formula_read [] p n = absurd (omega (arith, n))
-  formula_read (f ∷ fs) p n = formula_value f fs p.0 p.1 ∙ ap some (entries_members f fs)
+  formula_read (f ∷ fs) p n = formula_value f fs p.0 p.1 ∙ ap Some (entries_members f fs)
 
   formula_line : (fs : List Fragment) → AllPrint fs → all inline (print_formula fs) ≡ true
   formula_line [] p = all_nil inline
@@ -264,12 +264,12 @@ module _ (k : ℕ) (most : k ≤ 103) (one : 1 ≤ k) where
       by (f ∷ fs) e = omega (arith, ap length e)
 
   pub formula_told : (gs : List (List Atom)) → Groups gs → 0 < length (fragments_of gs) → entries_as k (formula_shape (strip (valued (print_formula (fragments_of gs))))) ≡ flat gathered gs
-  formula_told gs p n = ap (entries_as k) (formula_read (fragments_of gs) (fragments_print gs p) n ∙ ap some (members_are gs)) ∙ groups_back gs p
+  formula_told gs p n = ap (entries_as k) (formula_read (fragments_of gs) (fragments_print gs p) n ∙ ap Some (members_are gs)) ∙ groups_back gs p
 
   pub formula_taken : (st : State) (gs : List (List Atom)) → Groups gs → 0 < length (fragments_of gs) → formula_turn k st (formula_shape (strip (valued (print_formula (fragments_of gs))))) ≡ Go (with_formula st (flat gathered gs))
   unfolding formula_turn
   formula_taken st gs p n =
-      ap (formula_turn k st) (formula_read (fragments_of gs) (fragments_print gs p) n ∙ ap some (members_are gs))
+      ap (formula_turn k st) (formula_read (fragments_of gs) (fragments_print gs p) n ∙ ap Some (members_are gs))
       ∙ rw (groups_ranged gs p, groups_known gs p) (ap (λ (l : List Entry). Go (with_formula st l)) (groups_back gs p))
 
 -- THE RECORD of the groups' formula

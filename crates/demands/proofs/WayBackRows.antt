@@ -3,7 +3,7 @@
 use Prim.Native.Nat.{ℕ, ◌+◌, ◌≤◌, ◌<◌}
 use mathlib.Core.Path.{◌≡◌, refl, sym, ap, ◌∙◌}
 use mathlib.Core.Bool.{Bool, true, false, not, ◌||◌}
-use mathlib.Core.Option.{some}
+use Rattle.std.specs.declared.option.Option.TheVariants.{Some}
 use mathlib.Core.List.{List, [], ◌∷◌, ◌++◌, append-nil, reverse, reverse_aux}
 use native.Mathlib.Omega.{arith}
 use native.Mathlib.Nat.{add-zero}
@@ -99,7 +99,7 @@ module _ (l : ListOf) (at : ℕ) (seen : List Label) (texts : List Prose) (f : L
   unfolding join_turn
   join_new = rw (any_imply (meets l r) (clash l r) (clash_none l r) acc new, new, lt-leb (most l) (length acc) room) refl
 
-  row_taken : row_turn l here (some r) ≡ Go after
+  row_taken : row_turn l here (Some r) ≡ Go after
   unfolding row_turn
   row_taken =
       let F : FineRow l n r = row_fine_lem l n r ok in

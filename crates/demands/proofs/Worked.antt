@@ -1,6 +1,6 @@
 -- The cases and worked examples of document 01, and those of document 02, L2 and L4, computed from the definitions. Assumes nothing.
 use mathlib.Core.Path.{◌≡◌, refl}
-use mathlib.Core.Option.{some}
+use Rattle.std.specs.declared.option.Option.TheVariants.{Some}
 use mathlib.Core.List.{[], ◌∷◌, ◌++◌, map}
 use lib.ListN.{replicate}
 use Rattle.format.specs.Bytes.{bytes}
@@ -64,7 +64,7 @@ unfolding computing hydrate_table
 hydrate_written_lem = refl
 
 -- the walk's example: its four lines, and single steps
-pub example_walked : printed_all (answers 103 example_file) ≡ some example_lines
+pub example_walked : printed_all (answers 103 example_file) ≡ Some example_lines
 unfolding computing example_file
 example_walked = refl
 

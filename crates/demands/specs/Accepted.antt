@@ -1,7 +1,8 @@
 -- When a block is accepted, said of its lines and rows alone, without a reader's state: document 01, "Lines and labels", "Rows" and "Refusal numbers", and
 -- document 02, L2 and L4, each sentence one field of `Obeys`. Where the reading judges line by line, this judges the whole block. Assumes nothing.
 use Rattle.std.specs.Prelude.{ℕ, suc, ◌+◌, ◌≤◌, ◌<◌, ◌≡◌, Bool, true, false, ◌&&◌, ◌||◌, not, List, [], ◌∷◌, ◌++◌, map, length, drop, eqb, ltb, leb}
-use Rattle.std.proofs.Math.Option.{Option, none, some}
+use Rattle.std.specs.declared.option.Option.{Option}
+use Rattle.std.specs.declared.option.Option.TheVariants.{None, Some}
 use Rattle.lists.specs.Lists.{is_nil, all, any, pairs, flat}
 use Rattle.lists.specs.Folding.{kept}
 use Rattle.format.specs.Bytes.{Bytes, bytes, within, same, gap, allowed, cut, fields, strip}
@@ -95,8 +96,8 @@ line_in h (Further g l) = only_if (eqb (kind h) (kind g)) l
 
 -- ROWS: "lines then blank are skipped", and each other line has its row, if it has the shape of one
 abbrev pub listed : {A : Type 0} → Option A → List A
-listed none = []
-listed (some a) = a ∷ []
+listed None = []
+listed (Some a) = a ∷ []
 
 abbrev pub row_on : {A : Type 0} → (List Bytes → Option A) → (fields : List Bytes) → List A
 row_on shape [] = []
@@ -107,16 +108,16 @@ rows_by shape ls = flat (λ l. row_on shape (fields (strip l))) ls
 
 -- the entries of a formula, an atom
 abbrev pub entries_as : (k : ℕ) → Option (List Counted) → List Entry
-entries_as k none = []
-entries_as k (some cs) = map (λ c. entry (isotope k c.symbol) c.count) cs
+entries_as k None = []
+entries_as k (Some cs) = map (λ c. entry (isotope k c.symbol) c.count) cs
 
 abbrev pub atom_of : (k : ℕ) → AtomRow → Atom
 atom_of k r = record { kind = isotope k r.symbol; hydrogens = r.hydrogens }
 
 -- THE RULES THAT A LINE KEEPS OR BREAKS BY ITSELF. A row has its shape, and its values are in their ranges
 abbrev pub fits : {A : Type 0} → (A → Bool) → Option A → Bool
-fits test none = false
-fits test (some a) = test a
+fits test None = false
+fits test (Some a) = test a
 
 abbrev pub row_fits : {A : Type 0} → (List Bytes → Option A) → (A → Bool) → List Bytes → Bool
 row_fits shape test [] = true
@@ -164,7 +165,7 @@ pub data Yes : Type 0 where
   YES : Yes
 
 abbrev pub yes_shape : List Bytes → Option Yes
-yes_shape fs = elim (same (only_field fs) (bytes "YES")) [ true ↦ some YES | false ↦ none ]
+yes_shape fs = elim (same (only_field fs) (bytes "YES")) [ true ↦ Some YES | false ↦ None ]
 
 -- of MOLFORM's value the grammar judges, in `Obeys`
 abbrev pub value_rule : (k : ℕ) → Holds → Bytes → Bool
@@ -259,7 +260,7 @@ pub record Obeys (k : ℕ) (b : Bytes) : Type 0 where
   -- JCAMP-CS, ORIGIN, OWNER, MOLFORM are there
   pub required : all (named (labels (cut b))) (2 ∷ 3 ∷ 4 ∷ 5 ∷ []) ≡ true
   -- "for every element and mass, the formula's total over all fragments equals the atoms listed, with implied hydrogens counted as hydrogen without mass"
-  pub totals : (i : Isotope) → total i (entries_as k (some formula)) ≡ total i (entries_of (map (atom_of k) (atom_rows b)))
+  pub totals : (i : Isotope) → total i (entries_as k (Some formula)) ≡ total i (entries_of (map (atom_of k) (atom_rows b)))
   -- L2: the rows of XYZ name listed atoms, ascending; MAX_XYZ, XYZ_FACTOR and XYZ are there together or not at all; no value is above MAX_XYZ
   pub xyz_listed : all (λ r. within 1 (length (atom_rows b)) r.atom) (xyz_rows b) ≡ true
   pub xyz_ascending : pairs (λ q r. leb r.atom q.atom) (xyz_rows b) ≡ false

@@ -1,7 +1,7 @@
 -- The three demands of document 01, as document 02, L1, L2 and L4, has changed them, each one record of its statements, for the elements 1 to k: what the front file proves
 -- for every k in its range, here for one. Assumes nothing.
 use Rattle.std.specs.Prelude.{ℕ, ◌+◌, ◌<◌, ◌≤◌, ◌≡◌, ◌⊎◌, true, false, List, [], ◌∷◌, ◌++◌, map, length, drop, ℤ, pos, ltb, Float}
-use Rattle.std.proofs.Math.Option.{some}
+use Rattle.std.specs.declared.option.Option.TheVariants.{Some}
 use Rattle.lists.specs.Lists.{all, any}
 use Rattle.format.specs.Bytes.{Bytes, is_in, cut, strip, whole}
 use Rattle.format.specs.Labels.{end_line}
@@ -73,6 +73,6 @@ pub record Demand3 (k : ℕ) : Type 0 where
       answers k (a ++ (b ++ c)) ≡ answers k a then moved (length a) (answers k b) then moved (length a + length b) (answers k c)
   pub accepted_texts : (b : Bytes) → Obeys k b → texts_told (told_of k block b) ≡ map (text_at b) (spans_in b)
   pub refused_texts : (b : Bytes) → (Obeys k b → ⊥) → texts_told (told_of k block b) ≡ [] ∷ [] ∷ [] ∷ []
-  pub texts_told_lem : (s : Bytes) (l : List Answer) → answers k s ≡ some l → map (λ a. texts_told a.told) l ≡ map (λ a. texts_from a.of.from s a.told) l
+  pub texts_told_lem : (s : Bytes) (l : List Answer) → answers k s ≡ Some l → map (λ a. texts_told a.told) l ≡ map (λ a. texts_from a.of.from s a.told) l
   -- "No block without an END line is accepted."
   pub accepted_has_end : (b : Bytes) (l : Lent) → (read_result k b l).number ≡ 0 → any end_line (cut b) ≡ true

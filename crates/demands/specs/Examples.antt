@@ -2,7 +2,8 @@
 -- positions, of L4 a ring that is handed as a whole. Assumes nothing.
 use Rattle.std.specs.Prelude.{ℕ, zero, suc, ◌+◌, true, false, List, [], ◌∷◌, ◌++◌, map, get_or, ℤ, pos, negsuc, nat_abs, Float}
 use Prim.Native.String.{String}
-use Rattle.std.proofs.Math.Option.{Option, none, some}
+use Rattle.std.specs.declared.option.Option.{Option}
+use Rattle.std.specs.declared.option.Option.TheVariants.{None, Some}
 use Rattle.std.specs.Float.{fin}
 use Rattle.format.specs.Bytes.{Bytes, bytes}
 use Rattle.format.specs.Coordinates.{nought}
@@ -111,8 +112,8 @@ abbrev pub printed : Answer → Printed
 printed a = printed_as a.of.from a.of.to a.told
 
 abbrev pub printed_all : Option (List Answer) → Option (List Printed)
-printed_all none = none
-printed_all (some l) = some (map printed l)
+printed_all None = None
+printed_all (Some l) = Some (map printed l)
 
 -- "give:"
 abbrev pub example_lines : List Printed

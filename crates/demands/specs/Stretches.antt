@@ -1,7 +1,8 @@
 -- What demand 3 of document 01 speaks of: stretches of a file that begin and end as a walk needs it, answers moved along, the texts that an answer tells, pieces
 -- that cover a file, stray runs as long as they can be, and the walk step by step. Assumes nothing.
 use Rattle.std.specs.Prelude.{ℕ, zero, suc, ◌<◌, ◌≡◌, Bool, true, false, ◌&&◌, ◌||◌, List, [], ◌∷◌, ◌++◌, map, drop}
-use Rattle.std.proofs.Math.Option.{Option, none, some}
+use Rattle.std.specs.declared.option.Option.{Option}
+use Rattle.std.specs.declared.option.Option.TheVariants.{None, Some}
 use Rattle.lists.specs.Lists.{is_nil, any}
 use Rattle.format.specs.Bytes.{Bytes, cut, whole}
 use Rattle.format.specs.Labels.{title_line, end_line}
@@ -37,15 +38,15 @@ abbrev pub along : ℕ → List Answer → List Answer
 along n l = map (λ a. record { of = move n a.of; told = a.told }) l
 
 abbrev pub moved : ℕ → Option (List Answer) → Option (List Answer)
-moved n none = none
-moved n (some l) = some (along n l)
+moved n None = None
+moved n (Some l) = Some (along n l)
 
 -- "one after the other"
 infixr 20 ◌then◌
 abbrev pub ◌then◌ : Option (List Answer) → Option (List Answer) → Option (List Answer)
-none then l = none
-some k then none = none
-some k then some l = some (k ++ l)
+None then l = None
+Some k then None = None
+Some k then Some l = Some (k ++ l)
 
 -- "tables and texts included": the texts that an answer tells, and the bytes that stand in the file where its table has them, counted from the block's start
 abbrev pub texts_told : Told → List Bytes

@@ -13,8 +13,8 @@ ghost use Rattle.elements.specs.Shown.{isotope_shown};
 use crate::places::entry_at;
 use symbols::Mark;
 
-// An element (0 unknown) and a mass (0 none).
-#[derive(Clone, Copy)]
+// An element (0 unknown) and a mass (0 none): the zeros are the definitions' own, and the table has them in its cells.
+#[derive(Clone, Copy, Debug, PartialEq, Eq)]
 pub struct Isotope {
     pub element: u32,
     pub mass: u32,
@@ -25,20 +25,20 @@ fn letter_element(letter: u8) -> u32
     ensures { result ≡ place_of 1 (letter ∷ []) symbols }
 {
     match letter {
-        66 => 5,
-        67 => 6,
-        70 => 9,
-        72 => 1,
-        73 => 53,
-        75 => 19,
-        78 => 7,
-        79 => 8,
-        80 => 15,
-        83 => 16,
-        85 => 92,
-        86 => 23,
-        87 => 74,
-        89 => 39,
+        b'B' => 5,
+        b'C' => 6,
+        b'F' => 9,
+        b'H' => 1,
+        b'I' => 53,
+        b'K' => 19,
+        b'N' => 7,
+        b'O' => 8,
+        b'P' => 15,
+        b'S' => 16,
+        b'U' => 92,
+        b'V' => 23,
+        b'W' => 74,
+        b'Y' => 39,
         _ => 0,
     }
 }
@@ -54,23 +54,15 @@ fn among(element: u32, last: u32) -> u32
 fn element_of(first: u8, second: u8, last: u32) -> u32
     ensures { result ≡ place_of 1 (letters (sym_of false 0 first second)) (take last symbols) }
 {
-    if second == 0 {
-        return among(letter_element(first), last);
+    match (first, second) {
+        (_, 0) => among(letter_element(first), last),
+        (b'A'..=b'Z', b'a'..=b'z') => {
+            let upper = usize::from(first - b'A');
+            let lower = usize::from(second - b'a');
+            among(entry_at(upper * 27 + lower + 1), last)
+        }
+        _ => 0,
     }
-    if first < 65 {
-        return 0;
-    }
-    if 90 < first {
-        return 0;
-    }
-    if second < 97 {
-        return 0;
-    }
-    if 122 < second {
-        return 0;
-    }
-    let letter = first as usize - 65;
-    among(entry_at(letter * 27 + (second as usize - 96)), last)
 }
 
 // Hydrogen of a mass that has a letter of its own, "and take no `^`".
@@ -90,24 +82,13 @@ fn heavy_hydrogen(caret: bool, mass: u32) -> Isotope
 pub fn isotope_of(mark: Mark, last: u32) -> Isotope
     ensures { isotope_shown result ≡ isotope last (sym_of_mark mark) }
 {
-    let first = mark.first;
-    let second = mark.second;
-    let mass = mark.mass; // 0 where there is none
-    if second != 0 {
-        return Isotope {
+    match (mark.first, mark.second) {
+        (b'D', 0) => heavy_hydrogen(mark.caret, 2),
+        (b'T', 0) => heavy_hydrogen(mark.caret, 3),
+        (first, second) => Isotope {
             element: element_of(first, second, last),
-            mass,
-        };
-    }
-    if first == 68 {
-        return heavy_hydrogen(mark.caret, 2);
-    }
-    if first == 84 {
-        return heavy_hydrogen(mark.caret, 3);
-    }
-    Isotope {
-        element: element_of(first, second, last),
-        mass,
+            mass: mark.mass,
+        },
     }
 }
 
@@ -115,12 +96,5 @@ pub fn isotope_of(mark: Mark, last: u32) -> Isotope
 pub fn mass_fits(mark: Mark) -> bool
     ensures { result ≡ mass_ok (sym_of_mark mark) }
 {
-    if !mark.caret {
-        return true;
-    }
-    let mass = mark.mass;
-    if mass < 1 {
-        return false;
-    }
-    mass <= 300
+    !mark.caret || matches!(mark.mass, 1..=300)
 }

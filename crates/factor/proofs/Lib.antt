@@ -2,4 +2,3 @@
 pub mod PartLaws
 pub mod QuotientLaws
 pub mod FactorLaws
-pub mod ValueLaws

@@ -1,25 +1,25 @@
 -- One rounded division of whole numbers that are exact as floats, and the product that a coordinate divides. Serves document 02, L2 ("the whole product of row value and
 -- factor digits, divided once by its power of ten"). Assumes nothing.
-use Prim.Native.Nat.{ℕ, zero, suc, ◌+◌, ◌-◌, ◌^◌, ◌≤◌, ◌<◌}
+use Prim.Native.Nat.{ℕ, zero, suc, ◌^◌, ◌≤◌, ◌<◌}
 use mathlib.Core.Path.{◌≡◌, refl, sym, ap, ap₂, ◌∙◌}
-use mathlib.Core.Bool.{Bool, true, false, cond}
+use mathlib.Core.Bool.{Bool, true, false}
 use mathlib.Core.List.{List, [], ◌∷◌}
-use native.Mathlib.Nat.{le_trans, le_of_lt, mul-le-mul, pow-le-pow_right}
+use native.Mathlib.Nat.{le_trans, le_of_lt, mul-le-mul}
 use native.Mathlib.Omega.{arith}
 use borrow.Author.Rules.{sfits_of}
-use borrow.Author.Tests.{lt-ltb, le-ltb, lt-leb, le-leb, ltb-true, ltb-false, leb-true}
-use lib.Dec.{T, ltb, lit≤}
+use borrow.Author.Tests.{lt-leb, le-leb, ltb-true, ltb-false, leb-true}
+use lib.Dec.{ltb, lit≤}
 use lib.ListN.{get_or}
 use lib.IntN.{ℤ, pos, negsuc, nat_abs, ◌-ℤ◌, ◌*ℤ◌}
-use lib.Ieee.{Float, binary64, div, of_int, in_float, of_bits, of_fields}
+use lib.Ieee.{Float, binary64, div, of_int, of_bits, of_fields}
 use mir.Facts.{to_z-of_z, to_z_pos}
 use mir.Syntax.{w64}
 use mir.Val.{SFits, to_z, of_z}
 use Rattle.format.specs.Coordinates.{Factor, nought, coordinate}
 use Rattle.format.proofs.CoordinateLaws.{abs_product}
-use Rattle.format.proofs.HalfLaws.{exact}
-use Rattle.rows.specs.Raised.{raised, six_digits}
-use Rattle.factor.specs.ShownFactors.{quotient_of, lowered, scaled}
+use Rattle.rows.specs.Raised.{lowered, six_digits}
+use Rattle.rows.proofs.XyzLaws.{lowered_low, lowered_high}
+use Rattle.factor.specs.ShownFactors.{quotient_of, scaled}
 
 -- a literal 0.0 of the code is the definitions' nought
 pub nought_is : of_bits binary64 0 ≡ nought
@@ -43,9 +43,6 @@ power_is (suc (suc (suc (suc (suc (suc (suc (suc zero)))))))) h = refl
 power_is (suc (suc (suc (suc (suc (suc (suc (suc (suc zero))))))))) h = refl
 power_is (suc (suc (suc (suc (suc (suc (suc (suc (suc (suc d)))))))))) h = absurd (omega arith)
 
-pub exact_power : (d : ℕ) → d ≤ 9 → T (in_float binary64 (pos (10 ^ d)))
-exact_power d h = let m : 10 ^ d ≤ 10 ^ 9 = pow-le-pow_right (omega arith) {j = 9} h in exact (10 ^ d) (omega arith)
-
 -- THE QUOTIENT
 module _ (p : ℤ) (d : ℕ) where
   pub quotient_high : 9 < d → nought ≡ quotient_of p d
@@ -56,21 +53,7 @@ module _ (p : ℤ) (d : ℕ) where
   unfolding quotient_of
   quotient_is h = sym (rw (le-leb d 9 h, quotient_of))
 
--- A RAISED NUMBER, lowered again
-lowered_low : (n : ℕ) → n < 1000000 → lowered n ≡ negsuc (999999 - n)
-lowered_low n h = let q : 1000000 - suc n ≡ 999999 - n = omega arith in rw (lt-ltb n 1000000 h, cond) (ap negsuc q)
-
-lowered_high : (n : ℕ) → 1000000 ≤ n → lowered n ≡ pos (n - 1000000)
-lowered_high n h = rw (le-ltb n 1000000 h, cond)
-
-pub lowered_raised : (v : ℤ) → six_digits v ≡ true → lowered (raised v) ≡ v
-lowered_raised (pos n) h = let q : 1000000 + n - 1000000 ≡ n = omega arith in lowered_high (1000000 + n) (omega arith) ∙ ap pos q
-lowered_raised (negsuc n) h =
-    let b = leb-true (suc n) 999999 h in
-    let q : 999999 - (999999 - n) ≡ n = omega arith in
-    lowered_low (999999 - n) (omega arith) ∙ ap negsuc q
-
--- how far it is from 0: at most 1,000,000, and beyond for a number that no row gives
+-- A RAISED NUMBER, lowered again: how far it is from 0: at most 1,000,000, and beyond for a number that no row gives
 lowered_near : (n : ℕ) → n ≤ 2000000 → nat_abs (lowered n) ≤ 1000000
 lowered_near n h = go (ltb n 1000000) refl
   where
@@ -78,7 +61,7 @@ lowered_near n h = go (ltb n 1000000) refl
     go true e = rw (lowered_low n (ltb-true n 1000000 e)) (omega arith)
     go false e = rw (lowered_high n (ltb-false n 1000000 e)) (omega arith)
 
-lowered_far : (n : ℕ) → 2000000 < n → 1000000 < nat_abs (lowered n)
+pub lowered_far : (n : ℕ) → 2000000 < n → 1000000 < nat_abs (lowered n)
 lowered_far n h = rw (lowered_high n (omega arith)) (omega arith)
 
 -- THE PRODUCT of a row's value and the factor's digits: exact as a float, and so in 64 bits

@@ -4,14 +4,14 @@
 pub mod scale; // scale.rt: a row's whole number in Angstrom
 pub mod values; // values.rt: the values of MAX_XYZ and XYZ_FACTOR on their label lines
 
-ghost use Rattle.std.specs.Prelude.{◌≡◌, ◌-◌, ◌^◌, ◌≤◌, ◌<◌, length};
-ghost use Rattle.format.specs.Rows.{digits_of};
+ghost use Rattle.std.specs.Prelude.{◌≡◌, suc, ◌-◌, ◌^◌, ◌≤◌, ◌<◌, ◌++◌, length, take, drop, IfSome, IfOk};
+ghost use Rattle.lists.specs.Lists.{span};
+ghost use Rattle.format.specs.Rows.{digits_of, number_from};
 ghost use Rattle.format.specs.Coordinates.{unpointed, factor_shape};
-ghost use Rattle.numbers.specs.ShownNumbers.{Shows};
-ghost use Rattle.alphabet.specs.Runs.{RunEnd};
-ghost use Rattle.factor.specs.ShownFactors.{ShowsFrom, ShowsParts, unpointed_of, ShowsFactor, judged, factor_from};
+ghost use Rattle.factor.specs.ShownFactors.{shown_factor, judged, factor_from, FactorSmall};
 
-use numbers::Numeral;
+use alphabet::digit;
+use format::refusal::Refusal;
 
 // "The factor is kept with its value as a float beside its digits": the digits without the point, how many stood behind it, and the value.
 #[derive(Clone, Copy)]
@@ -21,103 +21,64 @@ pub struct Factor {
     pub value: f64,
 }
 
-// The factor, or the number of the refusal.
+// A word parted at its first point: what stands in front of it and what behind it.
 #[derive(Clone, Copy)]
-pub enum FactorAnswer {
-    Scale(Factor),
-    Refused(u32),
+struct Parts<'a> {
+    front: &'a [u8],
+    behind: &'a [u8],
 }
-
-// Where the front of a word ends at its first point, and where what is behind the point starts; both are the word's end where it has none.
-#[derive(Clone, Copy)]
-struct Parts {
-    point: usize,
-    behind: usize,
-}
-
-const POINT: u8 = 46;
 
 const MOST_DIGITS: usize = 9;
 
-// "shape .. faults as 9", "a zero factor as 10"
-const SHAPE: u32 = 9;
-
-const RANGE: u32 = 10;
-
-// Where the first point stands; the word's end where there is none.
-fn point_of(word: &[u8]) -> usize
-    ensures { RunEnd unpointed word.now 0 result }
+// The two parts of a word; all of it is in front where it has no point.
+fn parts_of(word: &[u8]) -> Parts<'_>
+    ensures front { result.front.now ≡ take (span unpointed word.now) word.now }
+    ensures behind { result.behind.now ≡ drop (suc (span unpointed word.now)) word.now }
 {
-    let mut i = 0;
-    while i < word.len() {
-        if word[i] == POINT {
-            return i;
-        }
-        i += 1;
-    }
-    i
-}
-
-// The two parts of a word at its first point.
-fn parts_of(word: &[u8]) -> Parts
-    ensures { ShowsParts word.now result }
-{
-    let point = point_of(word);
-    if point < word.len() {
-        return Parts {
-            point,
-            behind: point + 1,
-        };
-    }
-    Parts {
-        point,
-        behind: point,
+    match word.iter().position(|b| *b == b'.') {
+        Some(point) => Parts {
+            front: &word[..point],
+            behind: &word[point + 1..],
+        },
+        None => Parts {
+            front: word,
+            behind: &[],
+        },
     }
 }
 
+// Beside `numbers::digits`: a reader for both would ask its callers for a bound on `before`, and nothing that another crate calls may.
 // The number that the digits of a part say behind those that say `before`.
-fn digits_behind(before: u32, part: &[u8]) -> Numeral
+fn digits_behind(before: u32, part: &[u8]) -> Option<u32>
     requires { (length part.now ≤ 9) × (before < 10 ^ (9 - length part.now)) }
-    ensures { ShowsFrom before part.now result }
+    ensures says { result ≡ number_from before part.now }
+    ensures small { IfSome result (λ n. n < 1000000000) }
 {
     let mut n = before;
-    let mut i = 0;
-    while i < part.len() {
-        let d = part[i];
-        if !alphabet::is_digit(d) {
-            return Numeral::Wrong;
-        }
-        n = n * 10 + (d - 48) as u32;
-        i += 1;
+    for d in part {
+        n = n * 10 + digit(*d)?;
     }
-    Numeral::Value(n)
+    Some(n)
 }
 
 // The number that the word says without its first point, in 1 to 9 digits.
-fn digits_of(word: &[u8], parts: Parts) -> Numeral
-    requires { ShowsParts word.now parts }
-    ensures { Shows 1000000000 (digits_of 9 (unpointed_of word.now)) result }
+fn digits_of(parts: Parts<'_>) -> Option<u32>
+    ensures says { result ≡ digits_of 9 (parts.entry.front.now ++ parts.entry.behind.now) }
+    ensures small { IfSome result (λ n. n < 1000000000) }
 {
-    let point = parts.point;
-    let behind = parts.behind;
-    let count = point + (word.len() - behind);
-    if count < 1 {
-        return Numeral::Wrong;
+    let count = parts.front.len() + parts.behind.len();
+    if count < 1 || MOST_DIGITS < count {
+        return None;
     }
-    if MOST_DIGITS < count {
-        return Numeral::Wrong;
-    }
-    let Numeral::Value(front) = digits_behind(0, &word[0..point]) else {
-        return Numeral::Wrong;
-    };
-    digits_behind(front, &word[behind..])
+    let front = digits_behind(0, parts.front)?;
+    digits_behind(front, parts.behind)
 }
 
 // The factor of these digits and decimals, with its value.
 pub fn factor_from(digits: u32, decimals: u32) -> Factor
     ensures { result ≡ factor_from digits decimals }
 {
-    let value = scale::quotient(digits as i64, decimals);
+    let value = scale::quotient(i64::from(digits), decimals);
     Factor {
         digits,
         decimals,
@@ -125,17 +86,16 @@ pub fn factor_from(digits: u32, decimals: u32) -> Factor
     }
 }
 
-// The value of XYZ_FACTOR, which is the field's: 9 where it has no shape, 10 where it is zero.
-pub fn factor_of(word: &[u8]) -> FactorAnswer
-    ensures { ShowsFactor (judged (factor_shape word.now)) result }
+// The value of XYZ_FACTOR, which is the field's: "shape .. faults as 9", "a zero factor as 10".
+pub fn factor_of(word: &[u8]) -> Result<Factor, Refusal>
+    ensures says { shown_factor result ≡ judged (factor_shape word.now) }
+    ensures small { IfOk result FactorSmall }
 {
     let parts = parts_of(word);
-    let Numeral::Value(digits) = digits_of(word, parts) else {
-        return FactorAnswer::Refused(SHAPE);
-    };
+    let digits = digits_of(parts).ok_or(Refusal::Shape)?;
     if digits == 0 {
-        return FactorAnswer::Refused(RANGE);
+        return Err(Refusal::Range);
     }
-    let decimals = (word.len() - parts.behind) as u32;
-    FactorAnswer::Scale(factor_from(digits, decimals))
+    let decimals = parts.behind.len() as u32;
+    Ok(factor_from(digits, decimals))
 }

@@ -1,17 +1,17 @@
 // A row's whole number in Angstrom: document 02, L2 ("Each coordinate is the whole product of row value and factor digits, divided once by its power of ten").
 ghost use Rattle.std.specs.Prelude.{◌≡◌, ◌≤◌, pos, nat_abs, ◌*ℤ◌};
-ghost use Rattle.factor.specs.ShownFactors.{factor_of, quotient_of, lowered, scaled};
+ghost use Rattle.rows.specs.Raised.{lowered};
+ghost use Rattle.factor.specs.ShownFactors.{factor_of, quotient_of, scaled};
 
 use crate::Factor;
+use rows::xyz::LIFT;
 
-// A factor has at most 9 digits, so as many decimals at most.
-const MOST_DECIMALS: u32 = 9;
+// A row's number stands so far above the signed one, and no row has a number twice as high.
+const RAISE: i64 = LIFT as i64;
 
-// A row's number stands so far above the signed one, and no row has a higher number than the second.
-const RAISE: i64 = 1000000;
+const MOST_RAISED: u32 = 2 * LIFT;
 
-const MOST_RAISED: u32 = 2000000;
-
+// The powers of ten, by the number of decimals; a factor has at most 9 digits, so as many decimals at most.
 const POWERS: [u64; 10] = [
     1, 10, 100, 1000, 10000, 100000, 1000000, 10000000, 100000000, 1000000000,
 ];
@@ -21,11 +21,10 @@ pub(crate) fn quotient(p: i64, decimals: u32) -> f64
     requires { nat_abs p ≤ 9007199254740992 }
     ensures { result ≡ quotient_of p decimals }
 {
-    if MOST_DECIMALS < decimals {
-        return 0.0;
+    match POWERS.get(decimals as usize) {
+        Some(power) => (p as f64) / (*power as f64),
+        None => 0.0,
     }
-    let power = POWERS[decimals as usize];
-    (p as f64) / (power as f64)
 }
 
 // The whole product of a row's value, 1,000,000 above, and the factor's digits.
@@ -33,7 +32,7 @@ fn product(digits: u32, value: u32) -> i64
     requires { value ≤ 2000000 }
     ensures { (result ≡ lowered value *ℤ pos digits) × (nat_abs result ≤ 9007199254740992) }
 {
-    (value as i64 - RAISE) * (digits as i64)
+    (i64::from(value) - RAISE) * i64::from(digits)
 }
 
 // The coordinate of a row's value, 1,000,000 above, by the factor; 0 where no row has such a value.

@@ -1,11 +1,10 @@
 -- Groups printed one after another are the definition's fragments: document 02, L1 ("one fragment for each group of atoms .., parted by ` * `"). Assumes nothing.
-use Prim.Native.Nat.{ℕ, zero, suc, ◌/◌, ◌%◌, ◌<◌}
+use Prim.Native.Nat.{ℕ, suc, ◌/◌, ◌%◌, ◌<◌}
 use mathlib.Core.Path.{◌≡◌, refl, sym, ap, ap₂, ◌∙◌}
 use mathlib.Core.Bool.{true}
 use mathlib.Core.List.{List, [], ◌∷◌, ◌++◌, map, append_assoc}
 use native.Mathlib.Omega.{arith}
-use lib.ListN.{length, get_or, take, length-append}
-use lib.Seq.{get_or-take}
+use lib.ListN.{length, get_or, length-append}
 use Rattle.lists.specs.Lists.{all, flat}
 use Rattle.lists.proofs.ListLaws.{all_parts}
 use Rattle.lists.proofs.PartLaws.{flat_nil, flat_cons}
@@ -14,15 +13,28 @@ use Rattle.format.specs.Formula.{Counted, counted}
 use Rattle.format.specs.Structure.{Isotope, isotope_of, Atom, Entry, entries_of, total, atom_ok, letters}
 use Rattle.format.specs.Writing.{spelt, print_mass, print_sym, formula_of, print_count, print_entry, Fragment, fragment, print_fragment, print_fragments, print_formula, valued, print_record}
 use Rattle.tally.specs.Ranks.{element_of, key_of, fine}
-use Rattle.tally.specs.Gathering.{in_formula, in_group, group_keys, group_counts, Gathered, entry_of}
+use Rattle.tally.specs.declared.entries.Entry.{Entry as Tallied}
+use Rattle.tally.specs.Gathering.{keys_in, counts_in, in_formula, in_group, group_keys, group_counts, Gathered, entry_of}
 use Rattle.tally.proofs.KeyLaws.{key_high, key_back}
 use Rattle.tally.proofs.FormulaLaws.{formula_fine_lem}
 use Rattle.tally.proofs.AtomLaws.{entries_fine}
-use Rattle.printing.specs.Printing.{Laid}
-use Rattle.printing.proofs.PrintLaws.{laid_then, laid_as}
-use Rattle.form.specs.Entries.{parted, pieces, entries_text, fragments_of, FormulaLaid}
+use Rattle.printing.specs.Printing.{Printed}
+use Rattle.printing.specs.declared.Sheet.{Sheet}
+use Rattle.printing.proofs.PrintLaws.{printed_then, printed_as}
+use Rattle.form.specs.Entries.{parted, pieces, first_group, entries_text, fragments_of, FormulaLaid}
 use Rattle.form.proofs.EntryLaws.{parted_same, parted_other}
 use Rattle.form.proofs.RecordLaws.{valued_none, valued_some}
+
+-- ENTRIES by their keys and counts
+unfoldable pub pieces_by : (before : ℕ) → (keys counts : List ℕ) → Bytes
+pieces_by g [] ns = []
+pieces_by g (k ∷ ks) [] = []
+pieces_by g (k ∷ ks) (n ∷ ns) = (parted g (k / 65536) ++ print_entry (entry_of (k % 65536) n)) ++ pieces_by (k / 65536) ks ns
+
+pieces_are : (g : ℕ) (es : List Tallied) → pieces g es ≡ pieces_by g (keys_in es) (counts_in es)
+unfolding pieces pieces_by
+pieces_are g [] = refl
+pieces_are g (e ∷ es) = ap (λ (v : Bytes). (parted g (e.key / 65536) ++ print_entry (entry_of (e.key % 65536) e.count)) ++ v) (pieces_are (e.key / 65536) es)
 
 -- A GROUP'S ENTRIES behind its first
 abbrev spaced_text : List Counted → Bytes
@@ -58,26 +70,26 @@ module _ (j : ℕ) (es : List Entry) (ks ns : List ℕ) where
   as_key i = in_group j (key_of i)
 
   -- one entry of the group, the one before in group g
-  one_piece : (g : ℕ) (i : Isotope) → fine i ≡ true → (xs ys : List ℕ) → pieces g (as_key i ∷ xs) (total i es ∷ ys) ≡ (parted g j ++ print_entry (as_counted i)) ++ pieces j xs ys
-  unfolding pieces
+  one_piece : (g : ℕ) (i : Isotope) → fine i ≡ true → (xs ys : List ℕ) → pieces_by g (as_key i ∷ xs) (total i es ∷ ys) ≡ (parted g j ++ print_entry (as_counted i)) ++ pieces_by j xs ys
+  unfolding pieces_by
   one_piece g i h xs ys =
-      ap₂ (λ (x : ℕ) (e : Counted). (parted g x ++ print_entry e) ++ pieces x xs ys) (group_of j i h) (entry_in j i h (total i es))
+      ap₂ (λ (x : ℕ) (e : Counted). (parted g x ++ print_entry e) ++ pieces_by x xs ys) (group_of j i h) (entry_in j i h (total i es))
 
-  group_pieces : (is : List Isotope) → all fine is ≡ true → pieces j (map as_key is ++ ks) (map (λ i. total i es) is ++ ns) ≡ spaced_text (map as_counted is) ++ pieces j ks ns
-  group_pieces [] h = ap (λ (v : Bytes). v ++ pieces j ks ns) (sym (flat_nil (λ e. 32 ∷ print_entry e)))
+  group_pieces : (is : List Isotope) → all fine is ≡ true → pieces_by j (map as_key is ++ ks) (map (λ i. total i es) is ++ ns) ≡ spaced_text (map as_counted is) ++ pieces_by j ks ns
+  group_pieces [] h = ap (λ (v : Bytes). v ++ pieces_by j ks ns) (sym (flat_nil (λ e. 32 ∷ print_entry e)))
   group_pieces (i ∷ is) h =
       let p = all_parts fine i is h in
       one_piece j i p.0 (map as_key is ++ ks) (map (λ x. total x es) is ++ ns)
       ∙ ap₂ (λ (v w : Bytes). (v ++ print_entry (as_counted i)) ++ w) (sym (parted_same j j refl)) (group_pieces is p.1)
-      ∙ sym (append_assoc (32 ∷ print_entry (as_counted i)) (spaced_text (map as_counted is)) (pieces j ks ns)) ∙ ap (λ (v : Bytes). v ++ pieces j ks ns) (sym (flat_cons (λ e. 32 ∷ print_entry e) (as_counted i) (map as_counted is)))
+      ∙ sym (append_assoc (32 ∷ print_entry (as_counted i)) (spaced_text (map as_counted is)) (pieces_by j ks ns)) ∙ ap (λ (v : Bytes). v ++ pieces_by j ks ns) (sym (flat_cons (λ e. 32 ∷ print_entry e) (as_counted i) (map as_counted is)))
 
   -- and all of it, parted from another group
   pub whole_pieces : (g : ℕ) (i : Isotope) (is : List Isotope) → all fine (i ∷ is) ≡ true
-      → pieces g (map as_key (i ∷ is) ++ ks) (map (λ x. total x es) (i ∷ is) ++ ns) ≡ parted g j ++ (print_entry (as_counted i) ++ (spaced_text (map as_counted is) ++ pieces j ks ns))
+      → pieces_by g (map as_key (i ∷ is) ++ ks) (map (λ x. total x es) (i ∷ is) ++ ns) ≡ parted g j ++ (print_entry (as_counted i) ++ (spaced_text (map as_counted is) ++ pieces_by j ks ns))
   whole_pieces g i is h =
       let p = all_parts fine i is h in
       one_piece g i p.0 (map as_key is ++ ks) (map (λ x. total x es) is ++ ns) ∙ ap (λ (v : Bytes). (parted g j ++ print_entry (as_counted i)) ++ v) (group_pieces is p.1)
-      ∙ append_assoc (parted g j) (print_entry (as_counted i)) (spaced_text (map as_counted is) ++ pieces j ks ns)
+      ∙ append_assoc (parted g j) (print_entry (as_counted i)) (spaced_text (map as_counted is) ++ pieces_by j ks ns)
 
 -- GROUP AFTER GROUP
 abbrev formulas : List (List Atom) → List (List Counted)
@@ -103,29 +115,29 @@ module _ (g : List Atom) (h : all (atom_ok 103) g ≡ true) where
   unfolding group_counts
   counts_of_lem gs is e = flat_cons (λ x. map (λ i. total i (entries_of x)) (in_formula x)) g gs ∙ ap (λ (l : List Isotope). map (λ i. total i (entries_of g)) l ++ group_counts gs) e
 
-behind_pieces : (p j : ℕ) → p < j → (gs : List (List Atom)) → KindsOk gs → pieces p (group_keys j gs) (group_counts gs) ≡ starred_text (formulas gs)
-unfolding group_keys pieces
+behind_pieces : (p j : ℕ) → p < j → (gs : List (List Atom)) → KindsOk gs → pieces_by p (group_keys j gs) (group_counts gs) ≡ starred_text (formulas gs)
+unfolding group_keys pieces_by
 behind_pieces p j h [] ok = refl
 behind_pieces p j h (g ∷ gs) ok = let q = all_parts (all (atom_ok 103)) g gs ok in by (in_formula g) refl q.0 (behind_pieces p (suc j) (omega arith) gs q.1) (behind_pieces j (suc j) (omega arith) gs q.1)
   where
-    by : (is : List Isotope) → in_formula g ≡ is → all (atom_ok 103) g ≡ true → pieces p (group_keys (suc j) gs) (group_counts gs) ≡ starred_text (formulas gs) → pieces j (group_keys (suc j) gs) (group_counts gs) ≡ starred_text (formulas gs)
-        → pieces p (group_keys j (g ∷ gs)) (group_counts (g ∷ gs)) ≡ starred_text (formulas (g ∷ gs))
-    by [] e f ih jh = ap₂ (pieces p) (keys_of g f j gs [] e) (counts_of_lem g f gs [] e) ∙ ih ∙ ap (λ (es : List Counted). starred_text (es ∷ formulas gs)) (sym (formula_is g f [] e))
+    by : (is : List Isotope) → in_formula g ≡ is → all (atom_ok 103) g ≡ true → pieces_by p (group_keys (suc j) gs) (group_counts gs) ≡ starred_text (formulas gs) → pieces_by j (group_keys (suc j) gs) (group_counts gs) ≡ starred_text (formulas gs)
+        → pieces_by p (group_keys j (g ∷ gs)) (group_counts (g ∷ gs)) ≡ starred_text (formulas (g ∷ gs))
+    by [] e f ih jh = ap₂ (pieces_by p) (keys_of g f j gs [] e) (counts_of_lem g f gs [] e) ∙ ih ∙ ap (λ (es : List Counted). starred_text (es ∷ formulas gs)) (sym (formula_is g f [] e))
     by (i ∷ is) e f ih jh =
-        ap₂ (pieces p) (keys_of g f j gs (i ∷ is) e) (counts_of_lem g f gs (i ∷ is) e)
+        ap₂ (pieces_by p) (keys_of g f j gs (i ∷ is) e) (counts_of_lem g f gs (i ∷ is) e)
         ∙ whole_pieces j (entries_of g) (group_keys (suc j) gs) (group_counts gs) p i is (ap (all fine) (sym e) ∙ own_fine g f)
         ∙ ap₂ (λ (v w : Bytes). v ++ (print_entry (counted (spelt i) (total i (entries_of g))) ++ (spaced_text (map (λ x. counted (spelt x) (total x (entries_of g))) is) ++ w))) (sym (parted_other p j (λ z. omega arith))) jh
         ∙ ap (λ (es : List Counted). starred_text (es ∷ formulas gs)) (sym (formula_is g f (i ∷ is) e))
 
 abbrev from : List ℕ → List ℕ → Bytes
-from ks ns = pieces (get_or ks 0 0 / 65536) ks ns
+from ks ns = pieces_by (get_or ks 0 0 / 65536) ks ns
 
-first_pieces : (j : ℕ) (gs : List (List Atom)) → KindsOk gs → pieces (get_or (group_keys j gs) 0 0 / 65536) (group_keys j gs) (group_counts gs) ≡ first_text (formulas gs)
-unfolding group_keys pieces
+first_pieces : (j : ℕ) (gs : List (List Atom)) → KindsOk gs → pieces_by (get_or (group_keys j gs) 0 0 / 65536) (group_keys j gs) (group_counts gs) ≡ first_text (formulas gs)
+unfolding group_keys pieces_by
 first_pieces j [] ok = refl
 first_pieces j (g ∷ gs) ok = let q = all_parts (all (atom_ok 103)) g gs ok in by (in_formula g) refl q.0 (first_pieces (suc j) gs q.1) (behind_pieces j (suc j) (omega arith) gs q.1)
   where
-    by : (is : List Isotope) → in_formula g ≡ is → all (atom_ok 103) g ≡ true → from (group_keys (suc j) gs) (group_counts gs) ≡ first_text (formulas gs) → pieces j (group_keys (suc j) gs) (group_counts gs) ≡ starred_text (formulas gs)
+    by : (is : List Isotope) → in_formula g ≡ is → all (atom_ok 103) g ≡ true → from (group_keys (suc j) gs) (group_counts gs) ≡ first_text (formulas gs) → pieces_by j (group_keys (suc j) gs) (group_counts gs) ≡ starred_text (formulas gs)
         → from (group_keys j (g ∷ gs)) (group_counts (g ∷ gs)) ≡ first_text (formulas (g ∷ gs))
     by [] e f ih jh = ap₂ from (keys_of g f j gs [] e) (counts_of_lem g f gs [] e) ∙ ih ∙ ap (λ (es : List Counted). first_text (es ∷ formulas gs)) (sym (formula_is g f [] e))
     by (i ∷ is) e f ih jh =
@@ -133,7 +145,7 @@ first_pieces j (g ∷ gs) ok = let q = all_parts (all (atom_ok 103)) g gs ok in 
         let ns : List ℕ = map (λ x. total x (entries_of g)) (i ∷ is) ++ group_counts gs in
         let o : all fine (i ∷ is) ≡ true = ap (all fine) (sym e) ∙ own_fine g f in
         ap₂ from (keys_of g f j gs (i ∷ is) e) (counts_of_lem g f gs (i ∷ is) e)
-        ∙ ap (λ (x : ℕ). pieces x ks ns) (group_of j i (all_parts fine i is o).0)
+        ∙ ap (λ (x : ℕ). pieces_by x ks ns) (group_of j i (all_parts fine i is o).0)
         ∙ whole_pieces j (entries_of g) (group_keys (suc j) gs) (group_counts gs) j i is o
         ∙ ap₂ (λ (v w : Bytes). v ++ (print_entry (counted (spelt i) (total i (entries_of g))) ++ (spaced_text (map (λ x. counted (spelt x) (total x (entries_of g))) is) ++ w))) (sym (parted_same j j refl)) jh
         ∙ ap (λ (es : List Counted). first_text (es ∷ formulas gs)) (sym (formula_is g f (i ∷ is) e))
@@ -181,20 +193,13 @@ flat_formulas [] = refl
 flat_formulas (g ∷ gs) = ap (λ (fs : List Fragment). fragment (formula_of (entries_of g)) ++ fs) (flat_formulas gs)
 
 -- WHAT WAS GATHERED, printed
-pieces_none : (p : ℕ) (ns : List ℕ) → pieces p [] ns ≡ []
-unfolding pieces
-pieces_none p ns = refl
+gathered_text : (es : List Tallied) (gs : List (List Atom)) → KindsOk gs → Gathered gs es → entries_text es ≡ first_text (formulas gs)
+gathered_text es gs ok g =
+    pieces_are (first_group es) es ∙ ap₂ (λ (ks ns : List ℕ). pieces_by (get_or ks 0 0 / 65536) ks ns) g.sorted g.totals ∙ first_pieces 0 gs ok
 
-gathered_text : (n : ℕ) (keys counts : List ℕ) (gs : List (List Atom)) → KindsOk gs → Gathered gs n keys counts → entries_text n keys counts ≡ first_text (formulas gs)
-gathered_text zero keys counts gs ok g =
-    pieces_none (get_or keys 0 0 / 65536) [] ∙ sym (pieces_none (get_or (group_keys 0 gs) 0 0 / 65536) (group_counts gs)) ∙ ap (λ (ks : List ℕ). pieces (get_or (group_keys 0 gs) 0 0 / 65536) ks (group_counts gs)) g.sorted ∙ first_pieces 0 gs ok
-gathered_text (suc n) keys counts gs ok g =
-    ap (λ (x : ℕ). pieces (x / 65536) (take (suc n) keys) (take (suc n) counts)) (sym (get_or-take (suc n) keys 0 0 (omega arith)))
-    ∙ ap₂ (λ (ks ns : List ℕ). pieces (get_or ks 0 0 / 65536) ks ns) g.sorted g.totals ∙ first_pieces 0 gs ok
-
-pub formula_laid : {b b₁ b₂ b₃ : Bytes} {at r₁ r₂ r₃ : ℕ} (n : ℕ) (keys counts : List ℕ)
-    → Laid b at (bytes "##MOLFORM=") b₁ r₁ → Laid b₁ r₁ (entries_text n keys counts) b₂ r₂ → Laid b₂ r₂ (10 ∷ []) b₃ r₃ → FormulaLaid n keys counts b at b₃ r₃
+pub formula_laid : {s₀ s₁ s₂ s₃ : Sheet} (es : List Tallied)
+    → Printed s₀ (bytes "##MOLFORM=") s₁ → Printed s₁ (entries_text es) s₂ → Printed s₂ (10 ∷ []) s₃ → FormulaLaid es s₀ s₃
 unfolding print_record
-formula_laid n keys counts p q s gs ok g =
-    laid_as (ap (λ (v : Bytes). bytes "##MOLFORM=" ++ v) (ap (λ (v : Bytes). v ++ (10 ∷ [])) (gathered_text n keys counts gs ok g) ∙ value_is (formulas gs) ∙ ap (λ (fs : List Fragment). valued (print_formula fs)) (flat_formulas gs)))
-    (laid_then p (laid_then q s))
+formula_laid es p q s gs ok g =
+    printed_as (ap (λ (v : Bytes). bytes "##MOLFORM=" ++ v) (ap (λ (v : Bytes). v ++ (10 ∷ [])) (gathered_text es gs ok g) ∙ value_is (formulas gs) ∙ ap (λ (fs : List Fragment). valued (print_formula fs)) (flat_formulas gs)))
+    (printed_then p (printed_then q s))

@@ -19,11 +19,12 @@ use Rattle.format.specs.Rows.{Row, row}
 use Rattle.format.specs.Structure.{isotope_of, Atom, rows_of, lists}
 use Rattle.format.specs.Table.{cell, atom_at, atom_records, decode}
 use Rattle.format.specs.Writing.{line, row_words, atom_words, print_atoms, list_label, print_record, print_rows}
-use Rattle.printing.specs.Printing.{Laid, Rests}
+use Rattle.printing.specs.Printing.{Printed, Rests}
+use Rattle.printing.specs.declared.Sheet.{Sheet}
 use Rattle.rowform.specs.declared.Listed.{Listed}
 use Rattle.rowform.specs.Lines.{list_of, atom_no, atom_line, row_no, RowLaid}
 use Rattle.form.specs.Listing.{groups_fit, GroupsFit, rows_text, RowsLaid, ListLaid}
-use Rattle.printing.proofs.PrintLaws.{laid_none, laid_then, laid_as, rest_on, rest_none}
+use Rattle.printing.proofs.PrintLaws.{printed_none, printed_then, printed_as, rest_on, rest_none}
 use Rattle.rowform.proofs.PlaceLaws.{record_cell}
 
 -- THE ATOMS
@@ -45,8 +46,8 @@ unfolding decode print_atoms
 atoms_end t i h = ap (print_atoms (i + 1)) (sym (map_drop atom_at i (atom_records t)) ∙ ap (map atom_at) (drop_of_length-le (atom_records t) h))
 
 -- WHICH LIST
-pub label_as : {b b' : Bytes} {at r : ℕ} (x y : Listed) → x ≡ y → Laid b at (print_record (list_label (list_of y)) []) b' r → Laid b at (print_record (list_label (list_of x)) []) b' r
-label_as x y e l = laid_as (sym (ap (λ z. print_record (list_label (list_of z)) []) e)) l
+pub label_as : {s₀ s' : Sheet} (x y : Listed) → x ≡ y → Printed s₀ (print_record (list_label (list_of y)) []) s' → Printed s₀ (print_record (list_label (list_of x)) []) s'
+label_as x y e l = printed_as (sym (ap (λ z. print_record (list_label (list_of z)) []) e)) l
 
 pub count_as : (t : List ℤ) (n : ℕ) (x y : Listed) → x ≡ y → n ≡ length (rows_of (list_of y) (decode t)) → n ≡ length (rows_of (list_of x) (decode t))
 count_as t n x y e p = p ∙ sym (ap (λ z. length (rows_of (list_of z) (decode t))) e)
@@ -63,14 +64,14 @@ module _ (l : ListOf) (t : List ℤ) (i : ℕ) where
   unfolding row_no
   group_small h fit = ltb-true (row_no l t i).group 256 (all_at (λ r. ltb r.group 256) (row [] (pos 0) 0) (rows_of l (decode t)) i fit h)
 
-  pub rows_on : {b whole now now' : Bytes} {at here here' : ℕ} → i < length (rows_of l (decode t)) → RowLaid l t i now here now' here'
-      → (groups_fit (rows_of l (decode t)) ≡ true → Rests b at whole now here (rows_text l (drop i (rows_of l (decode t)))))
-      → groups_fit (rows_of l (decode t)) ≡ true → Rests b at whole now' here' (rows_text l (drop (i + 1) (rows_of l (decode t))))
+  pub rows_on : {s now now' : Sheet} {whole : Bytes} → i < length (rows_of l (decode t)) → RowLaid l t i now now'
+      → (groups_fit (rows_of l (decode t)) ≡ true → Rests s whole now (rows_text l (drop i (rows_of l (decode t)))))
+      → groups_fit (rows_of l (decode t)) ≡ true → Rests s whole now' (rows_text l (drop (i + 1) (rows_of l (decode t))))
   rows_on h one before fit = rest_on (rows_next h) (one h (group_small h fit)) (before fit)
 
-  pub rows_end : {b whole now : Bytes} {at here : ℕ} → length (rows_of l (decode t)) ≤ i
-      → (groups_fit (rows_of l (decode t)) ≡ true → Rests b at whole now here (rows_text l (drop i (rows_of l (decode t)))))
-      → groups_fit (rows_of l (decode t)) ≡ true → Laid b at whole now here
+  pub rows_end : {s now : Sheet} {whole : Bytes} → length (rows_of l (decode t)) ≤ i
+      → (groups_fit (rows_of l (decode t)) ≡ true → Rests s whole now (rows_text l (drop i (rows_of l (decode t)))))
+      → groups_fit (rows_of l (decode t)) ≡ true → Printed s whole now
   rows_end h before fit = rest_none (ap (rows_text l) (drop_of_length-le (rows_of l (decode t)) h) ∙ flat_nil (λ x. line (row_words l x))) (before fit)
 
 -- A LIST WITH ITS LABEL
@@ -85,15 +86,15 @@ some_rows l [] f = absurd (f refl)
 some_rows l (r ∷ rs) f = refl
 
 module _ (l : ListOf) (t : List ℤ) (n : ℕ) (many : n ≡ length (rows_of l (decode t))) where
-  pub list_none : {b : Bytes} {at : ℕ} → n ≡ 0 → ListLaid l t b at b at
-  list_none e fit = laid_as (no_rows l (rows_of l (decode t)) (sym many ∙ e)) laid_none
+  pub list_none : {s : Sheet} → n ≡ 0 → ListLaid l t s s
+  list_none e fit = printed_as (no_rows l (rows_of l (decode t)) (sym many ∙ e)) printed_none
 
-  pub list_some : {b b₁ b₂ : Bytes} {at r₁ r₂ : ℕ} → (n ≡ 0 → ⊥) → Laid b at (print_record (list_label l) []) b₁ r₁ → RowsLaid l t b₁ r₁ b₂ r₂ → ListLaid l t b at b₂ r₂
-  list_some f p q fit = laid_as (some_rows l (rows_of l (decode t)) (λ e. f (many ∙ e))) (laid_then p (q fit))
+  pub list_some : {s₀ s₁ s₂ : Sheet} → (n ≡ 0 → ⊥) → Printed s₀ (print_record (list_label l) []) s₁ → RowsLaid l t s₁ s₂ → ListLaid l t s₀ s₂
+  list_some f p q fit = printed_as (some_rows l (rows_of l (decode t)) (λ e. f (many ∙ e))) (printed_then p (q fit))
 
 -- ALL LISTS
-module _ (t : List ℤ) {b b₁ b₂ b₃ b₄ b₅ : Bytes} {at r₁ r₂ r₃ r₄ r₅ : ℕ} where
-  pub lists_laid : ListLaid Bonds t b at b₁ r₁ → ListLaid Charges t b₁ r₁ b₂ r₂ → ListLaid Radicals t b₂ r₂ b₃ r₃ → ListLaid Centres t b₃ r₃ b₄ r₄ → ListLaid Pairs t b₄ r₄ b₅ r₅
-      → GroupsFit t → Laid b at (flat (λ l. print_rows l (rows_of l (decode t))) lists) b₅ r₅
+module _ (t : List ℤ) {s₀ s₁ s₂ s₃ s₄ s₅ : Sheet} where
+  pub lists_laid : ListLaid Bonds t s₀ s₁ → ListLaid Charges t s₁ s₂ → ListLaid Radicals t s₂ s₃ → ListLaid Centres t s₃ s₄ → ListLaid Pairs t s₄ s₅
+      → GroupsFit t → Printed s₀ (flat (λ l. print_rows l (rows_of l (decode t))) lists) s₅
   unfolding lists flat
-  lists_laid p q r s u fit = laid_then (p (fit Bonds)) (laid_then (q (fit Charges)) (laid_then (r (fit Radicals)) (laid_then (s (fit Centres)) (laid_as (sym (append-nil (print_rows Pairs (rows_of Pairs (decode t))))) (u (fit Pairs))))))
+  lists_laid p q r s u fit = printed_then (p (fit Bonds)) (printed_then (q (fit Charges)) (printed_then (r (fit Radicals)) (printed_then (s (fit Centres)) (printed_as (sym (append-nil (print_rows Pairs (rows_of Pairs (decode t))))) (u (fit Pairs))))))

@@ -1,5 +1,5 @@
 -- The lists of a table, and what printing them promises: document 01, "The one written form". A group of a sound table is a byte. Assumes nothing.
-use Rattle.std.specs.Prelude.{ℕ, ◌≡◌, Bool, true, List, ℤ, ltb}
+use Rattle.std.specs.Prelude.{◌≡◌, Bool, true, List, ℤ, ltb}
 use Rattle.lists.specs.Lists.{all, flat}
 use Rattle.format.specs.Bytes.{Bytes}
 use Rattle.format.specs.Labels.{ListOf}
@@ -7,7 +7,8 @@ use Rattle.format.specs.Rows.{Row}
 use Rattle.format.specs.Structure.{rows_of}
 use Rattle.format.specs.Table.{decode}
 use Rattle.format.specs.Writing.{line, row_words, print_rows}
-use Rattle.printing.specs.Printing.{Laid}
+use Rattle.printing.specs.Printing.{Printed}
+use Rattle.printing.specs.declared.Sheet.{Sheet}
 
 -- the groups of rows are bytes
 abbrev pub groups_fit : List Row → Bool
@@ -20,8 +21,8 @@ GroupsFit t = (l : ListOf) → groups_fit (rows_of l (decode t)) ≡ true
 abbrev pub rows_text : ListOf → List Row → Bytes
 rows_text l rs = flat (λ x. line (row_words l x)) rs
 
-abbrev pub RowsLaid : ListOf → List ℤ → (buffer : Bytes) (at : ℕ) (later : Bytes) (r : ℕ) → Type 0
-RowsLaid l t b at b' r = groups_fit (rows_of l (decode t)) ≡ true → Laid b at (rows_text l (rows_of l (decode t))) b' r
+abbrev pub RowsLaid : ListOf → List ℤ → (before later : Sheet) → Type 0
+RowsLaid l t s s' = groups_fit (rows_of l (decode t)) ≡ true → Printed s (rows_text l (rows_of l (decode t))) s'
 
-abbrev pub ListLaid : ListOf → List ℤ → (buffer : Bytes) (at : ℕ) (later : Bytes) (r : ℕ) → Type 0
-ListLaid l t b at b' r = groups_fit (rows_of l (decode t)) ≡ true → Laid b at (print_rows l (rows_of l (decode t))) b' r
+abbrev pub ListLaid : ListOf → List ℤ → (before later : Sheet) → Type 0
+ListLaid l t s s' = groups_fit (rows_of l (decode t)) ≡ true → Printed s (print_rows l (rows_of l (decode t))) s'

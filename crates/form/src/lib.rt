@@ -4,15 +4,16 @@
 
 ghost use Rattle.std.specs.Prelude.{◌≤◌, ◌<◌, length};
 ghost use Rattle.printing.specs.Printing.{Untouched};
-ghost use Rattle.form.specs.Forms.{FormLaid};
+ghost use Rattle.form.specs.Forms.{FormLaid, FormPrinted};
 
 use crate::formula::put_formula;
 use crate::listing::{put_atoms, put_lists};
 use crate::records::{put_id, put_span, put_yes};
 use cells::cell;
 use format::Table;
-use printing::put_text;
+use printing::Sheet;
 use tally::ENTRIES;
+use tally::entries::Entry;
 
 mod formula; // formula.rt: the record of the formula
 mod listing; // listing.rt: the atoms and the rows of every list
@@ -25,47 +26,36 @@ const ORIGIN: usize = 1;
 
 const OWNER: usize = 2;
 
-// Every record, from the buffer's front on.
-fn put_records(
-    buffer: &mut [u8],
-    table: &[i32],
-    bytes: &[u8],
-    keys: &[u32; ENTRIES],
-    counts: &[u32; ENTRIES],
-    entries: usize,
-) -> usize
-    requires { (3856 ≤ length table.now) × (entries ≤ 512) }
-    ensures { FormLaid table.now bytes.now entries keys.now counts.now buffer.old buffer.new result }
+// Every record.
+fn put_records(sheet: &mut Sheet, table: &[i32; Table::SIZE], bytes: &[u8], entries: &[Entry])
+    ensures { FormPrinted table.now bytes.now entries.now sheet.old sheet.new }
 {
-    let title = put_span(buffer, 0, b"##TITLE=", table, TITLE, bytes);
-    let version = put_text(buffer, title, b"##JCAMP-CS= 3.7\n");
-    let origin = put_span(buffer, version, b"##ORIGIN=", table, ORIGIN, bytes);
-    let owner = put_span(buffer, origin, b"##OWNER=", table, OWNER, bytes);
-    let id = put_id(buffer, owner, cell(table, Table::BLOCK_ID));
-    let formula = put_formula(buffer, id, keys, counts, entries);
-    let label = put_text(buffer, formula, b"##ATOMLIST=\n");
-    let atoms = put_atoms(buffer, label, table);
-    let lists = put_lists(buffer, atoms, table);
-    let yes = put_yes(buffer, lists, cell(table, Table::HANDED));
-    put_text(buffer, yes, b"##END=\n")
+    put_span(sheet, b"##TITLE=", table, TITLE, bytes);
+    sheet.text(b"##JCAMP-CS= 3.7\n");
+    put_span(sheet, b"##ORIGIN=", table, ORIGIN, bytes);
+    put_span(sheet, b"##OWNER=", table, OWNER, bytes);
+    put_id(sheet, cell(table, Table::BLOCK_ID));
+    put_formula(sheet, entries);
+    sheet.text(b"##ATOMLIST=\n");
+    put_atoms(sheet, table);
+    put_lists(sheet, table);
+    put_yes(sheet, cell(table, Table::HANDED));
+    sheet.text(b"##END=\n");
 }
 
-// The same for any caller: a table that is too short, or more entries than the lists hold, print nothing: the buffer stays, and 0 is answered.
-pub fn put_form(
-    buffer: &mut [u8],
-    table: &[i32],
-    bytes: &[u8],
-    keys: &[u32; ENTRIES],
-    counts: &[u32; ENTRIES],
-    entries: usize,
-) -> usize
-    ensures { ((3856 ≤ length table.now) × (entries ≤ 512) → FormLaid table.now bytes.now entries keys.now counts.now buffer.old buffer.new result) × (length table.now < 3856 → Untouched buffer.old 0 buffer.new result) × (512 < entries → Untouched buffer.old 0 buffer.new result) }
+// 0 is what it promises there (docs/PROMISES.md).
+// The same for any caller, from the buffer's front on: a table that is too short, or more entries than a tally holds, print nothing: the buffer stays, and 0 is
+// answered.
+pub fn put_form(buffer: &mut [u8], table: &[i32], bytes: &[u8], entries: &[Entry]) -> usize
+    ensures { ((3856 ≤ length table.now) × (length entries.now ≤ 512) → FormLaid table.now bytes.now entries.now buffer.old buffer.new result) × (length table.now < 3856 → Untouched buffer.old 0 buffer.new result) × (512 < length entries.now → Untouched buffer.old 0 buffer.new result) }
 {
-    if table.len() < Table::SIZE {
+    if ENTRIES < entries.len() {
         return 0;
     }
-    if keys.len() < entries {
+    let Some(numbers) = table.first_chunk::<{ Table::SIZE }>() else {
         return 0;
-    }
-    put_records(buffer, table, bytes, keys, counts, entries)
+    };
+    let mut sheet = Sheet { buffer, at: 0 };
+    put_records(&mut sheet, numbers, bytes, entries);
+    sheet.at
 }

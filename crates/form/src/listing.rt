@@ -4,32 +4,27 @@ ghost use Rattle.lists.specs.Lists.{flat};
 ghost use Rattle.format.specs.Structure.{rows_of, lists};
 ghost use Rattle.format.specs.Table.{decode};
 ghost use Rattle.format.specs.Writing.{list_label, print_record, print_atoms, print_rows};
-ghost use Rattle.printing.specs.Printing.{Laid};
+ghost use Rattle.printing.specs.Printing.{Printed};
 ghost use Rattle.rowform.specs.Lines.{list_of};
 ghost use Rattle.form.specs.Listing.{RowsLaid, ListLaid, GroupsFit};
 
 use cells::count_at;
 use format::Table;
-use printing::put_text;
+use printing::Sheet;
 use rowform::{Listed, put_atom, put_row};
 
 // The atoms, one line each.
-pub fn put_atoms(buffer: &mut [u8], at: usize, table: &[i32]) -> usize
-    ensures { Laid buffer.old at (print_atoms 1 (decode table.now).atoms) buffer.new result }
+pub fn put_atoms(sheet: &mut Sheet, table: &[i32; Table::SIZE])
+    ensures { Printed sheet.old (print_atoms 1 (decode table.now).atoms) sheet.new }
 {
-    let count = count_at(table, Table::ATOM_COUNT, Table::ATOMS);
-    let mut place = at;
-    let mut i = 0;
-    while i < count {
-        place = put_atom(buffer, place, table, i);
-        i += 1;
+    for i in 0..count_at(table, Table::ATOM_COUNT, Table::ATOMS) {
+        put_atom(sheet, table, i);
     }
-    place
 }
 
+// By a match on the list, as `rowform::put_row` is: constants of a type for each list would say the same five lines elsewhere.
 // How many rows a list has.
-fn row_count(list: Listed, table: &[i32]) -> usize
-    requires { 3856 ≤ length table.now }
+fn row_count(list: Listed, table: &[i32; Table::SIZE]) -> usize
     ensures { (result ≡ length (rows_of (list_of list) (decode table.now))) × (result ≤ 512) }
 {
     match list {
@@ -42,53 +37,46 @@ fn row_count(list: Listed, table: &[i32]) -> usize
 }
 
 // The label line of a list: "spelt as in the paper's Table I".
-fn put_label(list: Listed, buffer: &mut [u8], at: usize) -> usize
-    ensures { Laid buffer.old at (print_record (list_label (list_of list)) []) buffer.new result }
+fn put_label(list: Listed, sheet: &mut Sheet)
+    ensures { Printed sheet.old (print_record (list_label (list_of list)) []) sheet.new }
 {
     match list {
-        Listed::Bond => put_text(buffer, at, b"##BONDLIST=\n"),
-        Listed::Charge => put_text(buffer, at, b"##CHARGE=\n"),
-        Listed::Radical => put_text(buffer, at, b"##RADICAL=\n"),
-        Listed::Centre => put_text(buffer, at, b"##STEREOCENTER=\n"),
-        Listed::Pair => put_text(buffer, at, b"##STEREOPAIR=\n"),
+        Listed::Bond => sheet.text(b"##BONDLIST=\n"),
+        Listed::Charge => sheet.text(b"##CHARGE=\n"),
+        Listed::Radical => sheet.text(b"##RADICAL=\n"),
+        Listed::Centre => sheet.text(b"##STEREOCENTER=\n"),
+        Listed::Pair => sheet.text(b"##STEREOPAIR=\n"),
     }
 }
 
 // The rows of a list.
-fn put_rows(list: Listed, buffer: &mut [u8], at: usize, table: &[i32], count: usize) -> usize
-    requires { (count ≡ length (rows_of (list_of list) (decode table.now))) × (count ≤ 512) × (3856 ≤ length table.now) }
-    ensures { RowsLaid (list_of list) table.now buffer.old at buffer.new result }
+fn put_rows(list: Listed, sheet: &mut Sheet, table: &[i32; Table::SIZE], count: usize)
+    requires { (count ≡ length (rows_of (list_of list) (decode table.now))) × (count ≤ 512) }
+    ensures { RowsLaid (list_of list) table.now sheet.old sheet.new }
 {
-    let mut place = at;
-    let mut i = 0;
-    while i < count {
-        place = put_row(list, buffer, place, table, i);
-        i += 1;
+    for i in 0..count {
+        put_row(list, sheet, table, i);
     }
-    place
 }
 
 // A list with its label, if it has a row.
-fn put_list(list: Listed, buffer: &mut [u8], at: usize, table: &[i32]) -> usize
-    requires { 3856 ≤ length table.now }
-    ensures { ListLaid (list_of list) table.now buffer.old at buffer.new result }
+fn put_list(list: Listed, sheet: &mut Sheet, table: &[i32; Table::SIZE])
+    ensures { ListLaid (list_of list) table.now sheet.old sheet.new }
 {
     let count = row_count(list, table);
-    if count == 0 {
-        return at;
+    if count != 0 {
+        put_label(list, sheet);
+        put_rows(list, sheet, table, count);
     }
-    let first = put_label(list, buffer, at);
-    put_rows(list, buffer, first, table, count)
 }
 
 // All lists: "BONDLIST, CHARGE, RADICAL, STEREOCENTER, STEREOPAIR".
-pub fn put_lists(buffer: &mut [u8], at: usize, table: &[i32]) -> usize
-    requires { 3856 ≤ length table.now }
-    ensures { GroupsFit table.now → Laid buffer.old at (flat (λ l. print_rows l (rows_of l (decode table.now))) lists) buffer.new result }
+pub fn put_lists(sheet: &mut Sheet, table: &[i32; Table::SIZE])
+    ensures { GroupsFit table.now → Printed sheet.old (flat (λ l. print_rows l (rows_of l (decode table.now))) lists) sheet.new }
 {
-    let bonds = put_list(Listed::Bond, buffer, at, table);
-    let charges = put_list(Listed::Charge, buffer, bonds, table);
-    let radicals = put_list(Listed::Radical, buffer, charges, table);
-    let centres = put_list(Listed::Centre, buffer, radicals, table);
-    put_list(Listed::Pair, buffer, centres, table)
+    put_list(Listed::Bond, sheet, table);
+    put_list(Listed::Charge, sheet, table);
+    put_list(Listed::Radical, sheet, table);
+    put_list(Listed::Centre, sheet, table);
+    put_list(Listed::Pair, sheet, table);
 }

@@ -1,74 +1,58 @@
 // Records with a value: document 01, "The one written form" ("`=` then a space and the value; no space where there is none"), and document 02, L4 ("written as a record
 // after STEREOPAIR with the value on the label line").
-ghost use Rattle.std.specs.Prelude.{◌≡◌, ◌++◌, ◌+◌, min, take, drop, eqb};
+ghost use Rattle.std.specs.Prelude.{◌++◌, ◌+◌, take, drop, eqb};
 ghost use Rattle.format.specs.Table.{text_place, cell as cell_of};
 ghost use Rattle.format.specs.Writing.{valued, print_id, print_yes};
-ghost use Rattle.printing.specs.Printing.{Laid};
+ghost use Rattle.printing.specs.Printing.{Printed};
 
 use cells::cell;
 use format::Table;
-use printing::{put, put_behind, put_text};
+use printing::Sheet;
 
 // A label and its value.
-fn put_record(buffer: &mut [u8], at: usize, label: &[u8], value: &[u8]) -> usize
-    ensures { Laid buffer.old at (label.now ++ valued value.now) buffer.new result }
+fn put_record(sheet: &mut Sheet, label: &[u8], value: &[u8])
+    ensures { Printed sheet.old (label.now ++ valued value.now) sheet.new }
 {
-    let named = put_text(buffer, at, label);
-    if value.len() == 0 {
-        return put(buffer, named, 10);
+    sheet.text(label);
+    if !value.is_empty() {
+        sheet.byte(b' ');
+        sheet.text(value);
     }
-    let space = put(buffer, named, 32);
-    let end = put_text(buffer, space, value);
-    put(buffer, end, 10)
-}
-
-// A number of the table, no more than there are bytes.
-fn within(number: u32, most: usize) -> usize
-    ensures { result ≡ min most number }
-{
-    let wide = number as usize;
-    if wide < most {
-        return wide;
-    }
-    most
+    sheet.byte(b'\n');
 }
 
 // A label and the text that has this index: title 0, origin 1, owner 2.
 pub fn put_span(
-    buffer: &mut [u8],
-    at: usize,
+    sheet: &mut Sheet,
     label: &[u8],
-    table: &[i32],
+    table: &[i32; Table::SIZE],
     index: usize,
     bytes: &[u8],
-) -> usize
-    ensures { Laid buffer.old at (label.now ++ valued (take (cell_of table.now (text_place index + 1)) (drop (cell_of table.now (text_place index)) bytes.now))) buffer.new result }
+)
+    ensures { Printed sheet.old (label.now ++ valued (take (cell_of table.now (text_place index + 1)) (drop (cell_of table.now (text_place index)) bytes.now))) sheet.new }
 {
     let place = Table::text(index);
-    let from = within(cell(table, place), bytes.len());
-    let size = within(cell(table, place + 1), bytes.len() - from);
-    let to = from + size;
-    put_record(buffer, at, label, &bytes[from..to])
+    let from = bytes.len().min(cell(table, place) as usize);
+    let size = (bytes.len() - from).min(cell(table, place + 1) as usize);
+    put_record(sheet, label, &bytes[from..from + size]);
 }
 
 // The block's number, if it has one.
-pub fn put_id(buffer: &mut [u8], at: usize, id: u32) -> usize
-    ensures { Laid buffer.old at (print_id id) buffer.new result }
+pub fn put_id(sheet: &mut Sheet, id: u32)
+    ensures { Printed sheet.old (print_id id) sheet.new }
 {
-    if id == 0 {
-        return at;
+    if id != 0 {
+        sheet.text(b"##BLOCK_ID=");
+        sheet.behind(id);
+        sheet.byte(b'\n');
     }
-    let label = put_text(buffer, at, b"##BLOCK_ID=");
-    let end = put_behind(buffer, label, id);
-    put(buffer, end, 10)
 }
 
 // That the molecule is handed as a whole, where the table's number says so.
-pub fn put_yes(buffer: &mut [u8], at: usize, flag: u32) -> usize
-    ensures { Laid buffer.old at (print_yes (eqb flag 1)) buffer.new result }
+pub fn put_yes(sheet: &mut Sheet, flag: u32)
+    ensures { Printed sheet.old (print_yes (eqb flag 1)) sheet.new }
 {
     if flag == 1 {
-        return put_text(buffer, at, b"##STEREOMOLECULE= YES\n");
+        sheet.text(b"##STEREOMOLECULE= YES\n");
     }
-    at
 }

@@ -17,10 +17,10 @@ use Rattle.format.specs.Reading.{Rules, State, Turn, Go, Stop, if◌stop◌else�
 use Rattle.format.proofs.ReadingLaws.{read_go, read_stop, read_end, stop_keeps, if_keeps, value_keeps, further_keeps, Went, further, started, step_went, Goes, AcceptedBy, accepted_by}
 
 -- a test that each of some labels and the label of the skipped passes is passed by what is looked up among them
-module _ (p : Label → Bool) (n : Bytes) (none : p (label "" Skipped 0 0 10) ≡ true) where
+module _ (p : Label → Bool) (n : Bytes) (None : p (label "" Skipped 0 0 10) ≡ true) where
   pub lookup_passes : (xs : List Label) → all p xs ≡ true → p (lookup n xs) ≡ true
   unfolding lookup all
-  lookup_passes [] h = none
+  lookup_passes [] h = None
   lookup_passes (x ∷ xs) h = by (p x) (same n x.name) refl refl h (lookup_passes xs)
     where
       by : (a b : Bool) → p x ≡ a → same n x.name ≡ b → (a && all p xs) ≡ true → (all p xs ≡ true → p (lookup n xs) ≡ true) → p (lookup n (x ∷ xs)) ≡ true

@@ -3,7 +3,8 @@
 use Prim.Native.Nat.{ℕ, zero, suc, ◌+◌, ◌-◌, ◌*◌, ◌≤◌, ◌<◌}
 use mathlib.Core.Path.{◌≡◌, refl, sym, ap, ◌∙◌}
 use mathlib.Core.Bool.{Bool, true, false, ◌||◌}
-use mathlib.Core.Option.{Option, some}
+use Rattle.std.specs.declared.option.Option.{Option}
+use Rattle.std.specs.declared.option.Option.TheVariants.{Some}
 use mathlib.Core.List.{List, [], ◌∷◌, ◌++◌, append_assoc, append-nil}
 use native.Mathlib.Omega.{arith}
 use lib.ListN.{length, length-append}
@@ -155,10 +156,10 @@ abbrev pub entries_in : Fragment → List Fragment → List Counted
 entries_in f [] = f.head ∷ f.tail
 entries_in f (g ∷ gs) = (f.head ∷ f.tail) ++ entries_in g gs
 
-run_back : (f : Fragment) (gs : List Fragment) → Prints f → AllPrint gs → frun (between false) (print_fragments f gs (10 ∷ [])) ≡ some (entries_in f gs)
+run_back : (f : Fragment) (gs : List Fragment) → Prints f → AllPrint gs → frun (between false) (print_fragments f gs (10 ∷ [])) ≡ Some (entries_in f gs)
 unfolding print_fragments gap blank within
 run_back f [] p ps =
-    fragment_back false f.head f.tail 10 [] p.0 p.1 sep10 ∙ ap (join (f.head ∷ f.tail)) (run_nil (between true)) ∙ ap (λ (r : List Counted). some (f.head ∷ r)) (append-nil f.tail)
+    fragment_back false f.head f.tail 10 [] p.0 p.1 sep10 ∙ ap (join (f.head ∷ f.tail)) (run_nil (between true)) ∙ ap (λ (r : List Counted). Some (f.head ∷ r)) (append-nil f.tail)
 run_back f (g ∷ gs) p ps =
     let s : Bytes = print_fragments g gs (10 ∷ []) in
     fragment_back false f.head f.tail 32 (42 ∷ 32 ∷ s) p.0 p.1 sep32
@@ -176,7 +177,7 @@ fragments_behind f [] r s = fragment_behind f.head f.tail r s
 fragments_behind f (g ∷ gs) r s = fragment_behind f.head f.tail (32 ∷ 42 ∷ 32 ∷ print_fragments g gs r) s ∙ ap (λ (t : Bytes). print_fragment f.head f.tail (32 ∷ 42 ∷ 32 ∷ t)) (fragments_behind g gs r s)
 
 -- behind the label's `=` stands a space, at the end a line feed
-pub formula_back : (f : Fragment) (gs : List Fragment) → Prints f → AllPrint gs → formula_shape (32 ∷ (print_fragments f gs [] ++ (10 ∷ []))) ≡ some (entries_in f gs)
+pub formula_back : (f : Fragment) (gs : List Fragment) → Prints f → AllPrint gs → formula_shape (32 ∷ (print_fragments f gs [] ++ (10 ∷ []))) ≡ Some (entries_in f gs)
 unfolding gap blank within
 formula_back f gs p ps =
     formula_is _ ∙ run_goes (between false) (between false) 32 _ (between_gap false 32 refl refl refl) ∙ ap (frun (between false)) (fragments_behind f gs [] (10 ∷ [])) ∙ run_back f gs p ps
@@ -221,10 +222,10 @@ formula_inline f (g ∷ gs) r p ps h =
     let k : all inline (32 ∷ 42 ∷ 32 ∷ t) ≡ true = all_both inline 32 _ refl (all_both inline 42 _ refl (all_both inline 32 t refl (formula_inline g gs r ps.0 ps.1 h))) in
     fragment_inline f.head f.tail (32 ∷ 42 ∷ 32 ∷ t) p.0 p.1 k
 
-pub formula_value : (f : Fragment) (gs : List Fragment) → Prints f → AllPrint gs → formula_shape (strip (valued (print_fragments f gs []))) ≡ some (entries_in f gs)
+pub formula_value : (f : Fragment) (gs : List Fragment) → Prints f → AllPrint gs → formula_shape (strip (valued (print_fragments f gs []))) ≡ Some (entries_in f gs)
 formula_value f gs p ps =
     ap formula_shape (strip_value _ (formula_inline f gs [] p ps (all_nil inline)) ∙ valued_is _ (formula_some f gs [])) ∙ formula_back f gs p ps
 
 -- "The formula is one fragment"
-pub fragment_value : (e : Counted) (es : List Counted) → PrintableEntry e → AllPrintable es → formula_shape (strip (valued (print_formula (fragment (e ∷ es))))) ≡ some (e ∷ es)
+pub fragment_value : (e : Counted) (es : List Counted) → PrintableEntry e → AllPrintable es → formula_shape (strip (valued (print_formula (fragment (e ∷ es))))) ≡ Some (e ∷ es)
 fragment_value e es p ps = formula_value (record { head = e; tail = es }) [] (p, ps) tt

@@ -3,7 +3,8 @@
 use Prim.Native.Nat.{ℕ, suc, ◌+◌, ◌-◌, ◌*◌, ◌≤◌, ◌<◌}
 use mathlib.Core.Path.{◌≡◌, refl, sym, ap, ◌∙◌}
 use mathlib.Core.Bool.{Bool, true, false, ◌&&◌}
-use mathlib.Core.Option.{Option, none, some}
+use Rattle.std.specs.declared.option.Option.{Option}
+use Rattle.std.specs.declared.option.Option.TheVariants.{None, Some}
 use mathlib.Core.List.{List, [], ◌∷◌, ◌++◌, append_assoc}
 use native.Mathlib.Numerals.{add-one}
 use lib.ListN.{length, get_or, drop, drop_of_length-le}
@@ -136,16 +137,16 @@ module _ (x : Sym) (n v b : ℕ) where
   count_other d = rw (d, fstep)
 
 -- THE RUN, step by step
-pub join_none : (es : List Counted) → join es none ≡ none
+pub join_none : (es : List Counted) → join es None ≡ None
 join_none es = refl
 
 pub join_nil : (r : Option (List Counted)) → join [] r ≡ r
-join_nil none = refl
-join_nil (some fs) = refl
+join_nil None = refl
+join_nil (Some fs) = refl
 
 pub join_join : (es fs : List Counted) (r : Option (List Counted)) → join es (join fs r) ≡ join (es ++ fs) r
-join_join es fs none = refl
-join_join es fs (some gs) = ap some (sym (append_assoc es fs gs))
+join_join es fs None = refl
+join_join es fs (Some gs) = ap Some (sym (append_assoc es fs gs))
 
 pub run_nil : (q : FState) → frun q [] ≡ finish q
 unfolding frun
@@ -164,7 +165,7 @@ run_goes q r b s e = run_step q b s (still r) e ∙ join_nil (frun r s)
 pub run_tells : (q r : FState) (x : Counted) (b : ℕ) (s : Bytes) → fstep q b ≡ tells x r → frun q (b ∷ s) ≡ join (x ∷ []) (frun r s)
 run_tells q r x b s e = run_step q b s (tells x r) e
 
-pub run_dead : (s : Bytes) → frun dead s ≡ none
+pub run_dead : (s : Bytes) → frun dead s ≡ None
 run_dead [] = run_nil dead
 run_dead (b ∷ s) = run_goes dead dead b s (dead_stays b) ∙ run_dead s
 
@@ -180,7 +181,7 @@ module _ (q : FState) (s : Bytes) (i : ℕ) where
   pub run_at_goes : (r : FState) → i < length s → fstep q (get_or s i 0) ≡ still r → frun q (drop i s) ≡ frun r (drop (i + 1) s)
   run_at_goes r h e = run_at (still r) h e ∙ join_nil (frun r (drop (i + 1) s))
 
-  pub run_at_dead : i < length s → fstep q (get_or s i 0) ≡ still dead → frun q (drop i s) ≡ none
+  pub run_at_dead : i < length s → fstep q (get_or s i 0) ≡ still dead → frun q (drop i s) ≡ None
   run_at_dead h e = run_at_goes dead h e ∙ run_dead (drop (i + 1) s)
 
   pub run_at_end : length s ≤ i → frun q (drop i s) ≡ finish q

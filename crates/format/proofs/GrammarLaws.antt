@@ -3,7 +3,9 @@
 use Prim.Native.Nat.{ℕ, suc, ◌+◌, ◌-◌, ◌*◌, ◌<◌}
 use mathlib.Core.Path.{◌≡◌, refl, sym, ap, ◌∙◌, subst}
 use mathlib.Core.Bool.{Bool, true, false, ◌&&◌, ◌||◌}
-use mathlib.Core.Option.{Option, none, some, some-injective, none-ne-some}
+use Rattle.std.specs.declared.option.Option.{Option}
+use Rattle.std.specs.declared.option.Option.TheVariants.{None, Some}
+use Rattle.std.proofs.lemmas.Option.{none-some, same_Some}
 use mathlib.Core.List.{List, [], ◌∷◌, ◌++◌, append-nil, append_assoc}
 use native.Mathlib.Omega.{arith}
 use lib.ListN.{length, length-append}
@@ -23,10 +25,10 @@ use Rattle.format.proofs.FormulaBack.{one_digit, two_digit}
 use Rattle.format.proofs.GrammarRuns.{Digits, one_ends, says_read}
 
 -- 1 TO SO MANY DIGITS, and the number that they say
-said_digits : (most n : ℕ) (w : Bytes) → Digits most n w → digits_of most w ≡ some n
-said_digits most n w d = digits_of_lem most w d.low d.high ∙ from_digits 0 w d.each ∙ ap some d.is
+said_digits : (most n : ℕ) (w : Bytes) → Digits most n w → digits_of most w ≡ Some n
+said_digits most n w d = digits_of_lem most w d.low d.high ∙ from_digits 0 w d.each ∙ ap Some d.is
 
-digits_number : (n : ℕ) (w : Bytes) → Digits 6 n w → number w ≡ some n
+digits_number : (n : ℕ) (w : Bytes) → Digits 6 n w → number w ≡ Some n
 digits_number n w d = number_is w ∙ said_digits 6 n w d
 
 digits_first : (most d : ℕ) → 0 < most → digit d ≡ true → Digits most (d - 48) (d ∷ [])
@@ -78,32 +80,32 @@ Rest (between false) s cs = Says s cs
 Rest (between true) s cs = (v : Bytes) (ds : List Counted) (b : ℕ) → gap b ≡ true → FragmentSays v ds → Says (v ++ (b ∷ s)) (ds ++ cs)
 Rest at_caret s cs = Says (94 ∷ s) cs
 Rest (in_mass n m) s cs = (w : Bytes) → length w ≡ n → Digits 3 m w → Says (94 ∷ (w ++ s)) cs
-Rest (at_one c m a) s cs = (v : Bytes) → symbol v ≡ some (sym_of c m a 0) → ((b : ℕ) → lower b ≡ true → symbol (v ++ (b ∷ [])) ≡ some (sym_of c m a b)) → Says (v ++ s) cs
-Rest (at_two x) s cs = (v : Bytes) (a : ℕ) → lower a ≡ true → symbol (v ++ (a ∷ [])) ≡ some x → Says ((v ++ (a ∷ [])) ++ s) cs
-Rest (at_slash x) s cs = (v : Bytes) → symbol v ≡ some x → Says (v ++ (47 ∷ s)) cs
+Rest (at_one c m a) s cs = (v : Bytes) → symbol v ≡ Some (sym_of c m a 0) → ((b : ℕ) → lower b ≡ true → symbol (v ++ (b ∷ [])) ≡ Some (sym_of c m a b)) → Says (v ++ s) cs
+Rest (at_two x) s cs = (v : Bytes) (a : ℕ) → lower a ≡ true → symbol (v ++ (a ∷ [])) ≡ Some x → Says ((v ++ (a ∷ [])) ++ s) cs
+Rest (at_slash x) s cs = (v : Bytes) → symbol v ≡ Some x → Says (v ++ (47 ∷ s)) cs
 Rest (in_count x n m) s cs =
-    (p w : Bytes) (a : ℕ) → ((u : Bytes) (k : ℕ) → number u ≡ some k → FragmentSays (p ++ u) (counted x k ∷ [])) → length (w ++ (a ∷ [])) ≡ n → Digits 6 m (w ++ (a ∷ [])) → Says ((p ++ (w ++ (a ∷ []))) ++ s) cs
+    (p w : Bytes) (a : ℕ) → ((u : Bytes) (k : ℕ) → number u ≡ Some k → FragmentSays (p ++ u) (counted x k ∷ [])) → length (w ++ (a ∷ [])) ≡ n → Digits 6 m (w ++ (a ∷ [])) → Says ((p ++ (w ++ (a ∷ []))) ++ s) cs
 
 abbrev Reads : Bytes → Type 0
-Reads s = (q : FState) (cs : List Counted) → frun q s ≡ some cs → Rest q s cs
+Reads s = (q : FState) (cs : List Counted) → frun q s ≡ Some cs → Rest q s cs
 
 -- at the end of the bytes
-reads_end : (q : FState) (cs : List Counted) → finish q ≡ some cs → Rest q [] cs
+reads_end : (q : FState) (cs : List Counted) → finish q ≡ Some cs → Rest q [] cs
 reads_end dead cs e = tt
-reads_end (between false) cs e = absurd (none-ne-some cs e)
-reads_end (between true) cs e = λ v ds b g f. moved refl (sym (append-nil ds) ∙ ap (λ (l : List Counted). ds ++ l) (some-injective [] cs e)) (fragment (blank_behind b g f))
-reads_end at_caret cs e = absurd (none-ne-some cs e)
-reads_end (in_mass n m) cs e = absurd (none-ne-some cs e)
-reads_end (at_one c m a) cs e = λ v h k. moved refl (some-injective (counted (sym_of c m a 0) 1 ∷ []) cs e) (fragment (entry v h absent))
-reads_end (at_two x) cs e = λ v a l h. moved refl (some-injective (counted x 1 ∷ []) cs e) (fragment (entry (v ++ (a ∷ [])) h absent))
-reads_end (at_slash x) cs e = absurd (none-ne-some cs e)
+reads_end (between false) cs e = absurd (none-some cs e)
+reads_end (between true) cs e = λ v ds b g f. moved refl (sym (append-nil ds) ∙ ap (λ (l : List Counted). ds ++ l) (same_Some [] cs e)) (fragment (blank_behind b g f))
+reads_end at_caret cs e = absurd (none-some cs e)
+reads_end (in_mass n m) cs e = absurd (none-some cs e)
+reads_end (at_one c m a) cs e = λ v h k. moved refl (same_Some (counted (sym_of c m a 0) 1 ∷ []) cs e) (fragment (entry v h absent))
+reads_end (at_two x) cs e = λ v a l h. moved refl (same_Some (counted x 1 ∷ []) cs e) (fragment (entry (v ++ (a ∷ [])) h absent))
+reads_end (at_slash x) cs e = absurd (none-some cs e)
 reads_end (in_count x n m) cs e = λ p w a f l d.
-    moved (sym (append-nil (p ++ (w ++ (a ∷ []))))) (some-injective (counted x m ∷ []) cs e) (fragment (f (w ++ (a ∷ [])) m (digits_number m (w ++ (a ∷ [])) d)))
+    moved (sym (append-nil (p ++ (w ++ (a ∷ []))))) (same_Some (counted x m ∷ []) cs e) (fragment (f (w ++ (a ∷ [])) m (digits_number m (w ++ (a ∷ [])) d)))
 
 -- an entry told at a byte
-told_on : (e : Counted) (o : Option (List Counted)) (cs : List Counted) → join (e ∷ []) o ≡ some cs → (ds : List Counted) × (o ≡ some ds) × (e ∷ ds ≡ cs)
-told_on e none cs h = absurd (none-ne-some cs h)
-told_on e (some ds) cs h = (ds, refl, some-injective (e ∷ ds) cs h)
+told_on : (e : Counted) (o : Option (List Counted)) (cs : List Counted) → join (e ∷ []) o ≡ Some cs → (ds : List Counted) × (o ≡ Some ds) × (e ∷ ds ≡ cs)
+told_on e None cs h = absurd (none-some cs h)
+told_on e (Some ds) cs h = (ds, refl, same_Some (e ∷ ds) cs h)
 
 -- a letter that starts a symbol without mass
 letter_first : (a : ℕ) (s : Bytes) (cs : List Counted) → upper a ≡ true → Rest (at_one false 0 a) s cs → Says (a ∷ s) cs
@@ -111,15 +113,15 @@ letter_first a s cs u r =
     r (a ∷ []) (symbol_plain a [] (upper_caret a u) ∙ lettered_one false 0 a u) (λ b l. symbol_plain a (b ∷ []) (upper_caret a u) ∙ lettered_two false 0 a b u l)
 
 -- at a byte, by what is said of those behind it
-module _ (b : ℕ) (s : Bytes) (ih : Reads s) (q : FState) (cs : List Counted) (h : frun q (b ∷ s) ≡ some cs) where
+module _ (b : ℕ) (s : Bytes) (ih : Reads s) (q : FState) (cs : List Counted) (h : frun q (b ∷ s) ≡ Some cs) where
   goes : (r : FState) → fstep q b ≡ still r → Rest r s cs
   goes r e = ih r cs (sym (run_goes q r b s e) ∙ h)
 
   dies : {A : Type 0} → fstep q b ≡ still dead → A
-  dies e = absurd (none-ne-some cs (sym (run_dead s) ∙ sym (run_goes q dead b s e) ∙ h))
+  dies e = absurd (none-some cs (sym (run_dead s) ∙ sym (run_goes q dead b s e) ∙ h))
 
   tells_on : (e : Counted) (r : FState) → fstep q b ≡ tells e r → (ds : List Counted) × Rest r s ds × (e ∷ ds ≡ cs)
-  tells_on e r f = let p : (ds : List Counted) × (frun r s ≡ some ds) × (e ∷ ds ≡ cs) = told_on e (frun r s) cs (sym (run_step q b s (tells e r) f) ∙ h) in (p.0, ih r p.0 p.1, p.2)
+  tells_on e r f = let p : (ds : List Counted) × (frun r s ≡ Some ds) × (e ∷ ds ≡ cs) = told_on e (frun r s) cs (sym (run_step q b s (tells e r) f) ∙ h) in (p.0, ih r p.0 p.1, p.2)
 
   -- behind an entry
   parts : (e : Counted) (v : Bytes) → FragmentSays v (e ∷ []) → fstep q b ≡ part e b → Says (v ++ (b ∷ s)) cs
@@ -144,21 +146,21 @@ module _ (b : ℕ) (s : Bytes) (ih : Reads s) (q : FState) (cs : List Counted) (
       go false u = parts e (v ++ (a ∷ [])) f (p ∙ leave_part e b u)
 
   -- behind a symbol
-  counts : (x : Sym) (v : Bytes) → symbol v ≡ some x → digit b ≡ true → fstep q b ≡ still (in_count x 1 (b - 48)) → Says (v ++ (b ∷ s)) cs
+  counts : (x : Sym) (v : Bytes) → symbol v ≡ Some x → digit b ≡ true → fstep q b ≡ still (in_count x 1 (b - 48)) → Says (v ++ (b ∷ s)) cs
   counts x v e d f = moved (append_assoc v (b ∷ []) s) refl (goes (in_count x 1 (b - 48)) f v [] b (λ u k n. entry v e (plain n)) refl (digits_first 6 b (omega arith) d))
 
-  slashes : (x : Sym) (v : Bytes) → symbol v ≡ some x → eqb b 47 ≡ true → fstep q b ≡ still (at_slash x) → Says (v ++ (b ∷ s)) cs
+  slashes : (x : Sym) (v : Bytes) → symbol v ≡ Some x → eqb b 47 ≡ true → fstep q b ≡ still (at_slash x) → Says (v ++ (b ∷ s)) cs
   slashes x v e t f = moved (ap (λ (c : ℕ). v ++ (c ∷ s)) (sym (eqb-true b 47 t))) refl (goes (at_slash x) f v e)
 
 -- between entries
-module _ (x : Bool) (b : ℕ) (s : Bytes) (ih : Reads s) (cs : List Counted) (h : frun (between x) (b ∷ s) ≡ some cs) where
+module _ (x : Bool) (b : ℕ) (s : Bytes) (ih : Reads s) (cs : List Counted) (h : frun (between x) (b ∷ s) ≡ Some cs) where
   starts_letter : upper b ≡ true → Says (b ∷ s) cs
   starts_letter u = letter_first b s cs u (goes b s ih (between x) cs h (at_one false 0 b) (between_upper x b u))
 
   starts_caret : upper b ≡ false → eqb b 94 ≡ true → Says (b ∷ s) cs
   starts_caret u c = moved (ap (λ (a : ℕ). a ∷ s) (sym (eqb-true b 94 c))) refl (goes b s ih (between x) cs h at_caret (between_caret x b u c))
 
-step_start : (b : ℕ) (s : Bytes) → Reads s → (cs : List Counted) → frun (between false) (b ∷ s) ≡ some cs → Says (b ∷ s) cs
+step_start : (b : ℕ) (s : Bytes) → Reads s → (cs : List Counted) → frun (between false) (b ∷ s) ≡ Some cs → Says (b ∷ s) cs
 step_start b s ih cs h = go (upper b) (eqb b 94) (gap b) refl refl refl
   where
     go : (t c g : Bool) → upper b ≡ t → eqb b 94 ≡ c → gap b ≡ g → Says (b ∷ s) cs
@@ -167,7 +169,7 @@ step_start b s ih cs h = go (upper b) (eqb b 94) (gap b) refl refl refl
     go false false true u e f = says_before b f (goes b s ih (between false) cs h (between false) (between_gap false b u e f))
     go false false false u e f = dies b s ih (between false) cs h (between_dead false b u e f (and_right_false (eqb b 42) false refl))
 
-step_blank : (b : ℕ) (s : Bytes) → Reads s → (cs : List Counted) → frun (between true) (b ∷ s) ≡ some cs → Rest (between true) (b ∷ s) cs
+step_blank : (b : ℕ) (s : Bytes) → Reads s → (cs : List Counted) → frun (between true) (b ∷ s) ≡ Some cs → Rest (between true) (b ∷ s) cs
 step_blank b s ih cs h v ds a ga f = go (upper b) (eqb b 94) (gap b) (eqb b 42) refl refl refl refl
   where
     go : (t c g k : Bool) → upper b ≡ t → eqb b 94 ≡ c → gap b ≡ g → eqb b 42 ≡ k → Says (v ++ (a ∷ b ∷ s)) (ds ++ cs)
@@ -180,20 +182,20 @@ step_blank b s ih cs h v ds a ga f = go (upper b) (eqb b 94) (gap b) (eqb b 42) 
     go false false false false u e p r = dies b s ih (between true) cs h (between_dead true b u e p (ap (λ (t : Bool). t && true) r))
 
 -- a mass
-step_caret : (b : ℕ) (s : Bytes) → Reads s → (cs : List Counted) → frun at_caret (b ∷ s) ≡ some cs → Says (94 ∷ b ∷ s) cs
+step_caret : (b : ℕ) (s : Bytes) → Reads s → (cs : List Counted) → frun at_caret (b ∷ s) ≡ Some cs → Says (94 ∷ b ∷ s) cs
 step_caret b s ih cs h = go (digit b) refl
   where
     go : (t : Bool) → digit b ≡ t → Says (94 ∷ b ∷ s) cs
     go true d = goes b s ih at_caret cs h (in_mass 1 (b - 48)) (caret_digit b d) (b ∷ []) refl (digits_first 3 b (omega arith) d)
     go false d = dies b s ih at_caret cs h (caret_dead b d)
 
-step_mass : (n m b : ℕ) (s : Bytes) → Reads s → (cs : List Counted) → frun (in_mass n m) (b ∷ s) ≡ some cs → Rest (in_mass n m) (b ∷ s) cs
+step_mass : (n m b : ℕ) (s : Bytes) → Reads s → (cs : List Counted) → frun (in_mass n m) (b ∷ s) ≡ Some cs → Rest (in_mass n m) (b ∷ s) cs
 step_mass n m b s ih cs h w l d = go (digit b) (ltb n 3) (upper b) refl refl refl
   where
-    symbol_one : upper b ≡ true → symbol (94 ∷ (w ++ (b ∷ []))) ≡ some (sym_of true m b 0)
+    symbol_one : upper b ≡ true → symbol (94 ∷ (w ++ (b ∷ []))) ≡ Some (sym_of true m b 0)
     symbol_one u = symbol_caret (w ++ (b ∷ [])) ∙ massed_at w b [] m d.each (upper_digit b u) (said_digits 3 m w d) ∙ lettered_one true m b u
 
-    symbol_two : upper b ≡ true → (c : ℕ) → lower c ≡ true → symbol (94 ∷ ((w ++ (b ∷ [])) ++ (c ∷ []))) ≡ some (sym_of true m b c)
+    symbol_two : upper b ≡ true → (c : ℕ) → lower c ≡ true → symbol (94 ∷ ((w ++ (b ∷ [])) ++ (c ∷ []))) ≡ Some (sym_of true m b c)
     symbol_two u c k =
         ap (λ (v : Bytes). symbol (94 ∷ v)) (append_assoc w (b ∷ []) (c ∷ [])) ∙ symbol_caret (w ++ (b ∷ c ∷ []))
         ∙ massed_at w b (c ∷ []) m d.each (upper_digit b u) (said_digits 3 m w d) ∙ lettered_two true m b c u k
@@ -210,7 +212,7 @@ step_mass n m b s ih cs h w l d = go (digit b) (ltb n 3) (upper b) refl refl ref
     go false k false e j f = dies b s ih (in_mass n m) cs h (mass_dead n m b e f)
 
 -- behind one letter, two, `/`, and in a count
-step_one : (c : Bool) (m a b : ℕ) (s : Bytes) → Reads s → (cs : List Counted) → frun (at_one c m a) (b ∷ s) ≡ some cs → Rest (at_one c m a) (b ∷ s) cs
+step_one : (c : Bool) (m a b : ℕ) (s : Bytes) → Reads s → (cs : List Counted) → frun (at_one c m a) (b ∷ s) ≡ Some cs → Rest (at_one c m a) (b ∷ s) cs
 step_one c m a b s ih cs h v e f = go (lower b) (digit b) (eqb b 47) refl refl refl
   where
     go : (t d k : Bool) → lower b ≡ t → digit b ≡ d → eqb b 47 ≡ k → Says (v ++ (b ∷ s)) cs
@@ -221,7 +223,7 @@ step_one c m a b s ih cs h v e f = go (lower b) (digit b) (eqb b 47) refl refl r
         parts b s ih (at_one c m a) cs h (counted (sym_of c m a 0) 1) v (subst (λ (u : Bytes). FragmentSays u (counted (sym_of c m a 0) 1 ∷ [])) (append-nil v) (entry v e absent))
         (one_ends b (record { not_lower = l; not_digit = p; not_slash = r }) c m a)
 
-step_two : (x : Sym) (b : ℕ) (s : Bytes) → Reads s → (cs : List Counted) → frun (at_two x) (b ∷ s) ≡ some cs → Rest (at_two x) (b ∷ s) cs
+step_two : (x : Sym) (b : ℕ) (s : Bytes) → Reads s → (cs : List Counted) → frun (at_two x) (b ∷ s) ≡ Some cs → Rest (at_two x) (b ∷ s) cs
 step_two x b s ih cs h v a l e = go (digit b) (eqb b 47) refl refl
   where
     go : (d k : Bool) → digit b ≡ d → eqb b 47 ≡ k → Says ((v ++ (a ∷ [])) ++ (b ∷ s)) cs
@@ -231,10 +233,10 @@ step_two x b s ih cs h v a l e = go (digit b) (eqb b 47) refl refl
         leaves b s ih (at_two x) cs h (counted x 1) v a (or_left (lower a) (digit a) l)
         (subst (λ (u : Bytes). FragmentSays u (counted x 1 ∷ [])) (append-nil (v ++ (a ∷ []))) (entry (v ++ (a ∷ [])) e absent)) (two_is x b ∙ count_or_other x b _ p r)
 
-step_slash : (x : Sym) (b : ℕ) (s : Bytes) → Reads s → (cs : List Counted) → frun (at_slash x) (b ∷ s) ≡ some cs → Rest (at_slash x) (b ∷ s) cs
+step_slash : (x : Sym) (b : ℕ) (s : Bytes) → Reads s → (cs : List Counted) → frun (at_slash x) (b ∷ s) ≡ Some cs → Rest (at_slash x) (b ∷ s) cs
 step_slash x b s ih cs h v e = go (digit b) refl
   where
-    says : (u : Bytes) (k : ℕ) → number u ≡ some k → FragmentSays ((v ++ (47 ∷ [])) ++ u) (counted x k ∷ [])
+    says : (u : Bytes) (k : ℕ) → number u ≡ Some k → FragmentSays ((v ++ (47 ∷ [])) ++ u) (counted x k ∷ [])
     says u k n = subst (λ (w : Bytes). FragmentSays w (counted x k ∷ [])) (sym (append_assoc v (47 ∷ []) u)) (entry v e (slashed n))
 
     go : (t : Bool) → digit b ≡ t → Says (v ++ (47 ∷ b ∷ s)) cs
@@ -243,7 +245,7 @@ step_slash x b s ih cs h v e = go (digit b) refl
         (goes b s ih (at_slash x) cs h (in_count x 1 (b - 48)) (slash_digit b x d) (v ++ (47 ∷ [])) [] b says refl (digits_first 6 b (omega arith) d))
     go false d = dies b s ih (at_slash x) cs h (slash_dead b x d)
 
-step_count : (x : Sym) (n m b : ℕ) (s : Bytes) → Reads s → (cs : List Counted) → frun (in_count x n m) (b ∷ s) ≡ some cs → Rest (in_count x n m) (b ∷ s) cs
+step_count : (x : Sym) (n m b : ℕ) (s : Bytes) → Reads s → (cs : List Counted) → frun (in_count x n m) (b ∷ s) ≡ Some cs → Rest (in_count x n m) (b ∷ s) cs
 step_count x n m b s ih cs h p w a f l d = go (digit b) (ltb n 6) refl refl
   where
     last : (lower a || digit a) ≡ true
@@ -275,12 +277,12 @@ reads (b ∷ s) (at_two x) cs h = step_two x b s (reads s) cs h
 reads (b ∷ s) (at_slash x) cs h = step_slash x b s (reads s) cs h
 reads (b ∷ s) (in_count x n m) cs h = step_count x n m b s (reads s) cs h
 
-pub read_says : (v : Bytes) (cs : List Counted) → formula_shape v ≡ some cs → Says v cs
+pub read_says : (v : Bytes) (cs : List Counted) → formula_shape v ≡ Some cs → Says v cs
 read_says v cs e = reads v (between false) cs (sym (formula_is v) ∙ e)
 
 -- BOTH WAYS, and so no bytes say two lists
-pub formula_grammar : (v : Bytes) (cs : List Counted) → (formula_shape v ≡ some cs → Says v cs) × (Says v cs → formula_shape v ≡ some cs)
+pub formula_grammar : (v : Bytes) (cs : List Counted) → (formula_shape v ≡ Some cs → Says v cs) × (Says v cs → formula_shape v ≡ Some cs)
 formula_grammar v cs = (read_says v cs, says_read)
 
 pub formula_once : (v : Bytes) (cs ds : List Counted) → Says v cs → Says v ds → cs ≡ ds
-formula_once v cs ds f g = some-injective cs ds (sym (says_read f) ∙ says_read g)
+formula_once v cs ds f g = same_Some cs ds (sym (says_read f) ∙ says_read g)

@@ -3,7 +3,9 @@
 use Prim.Native.Nat.{ℕ, suc, ◌+◌, ◌-◌, ◌*◌, ◌^◌, ◌≤◌, ◌<◌}
 use mathlib.Core.Path.{◌≡◌, refl, sym, ap, ◌∙◌, subst}
 use mathlib.Core.Bool.{Bool, true, false, ◌&&◌, ◌||◌}
-use mathlib.Core.Option.{Option, none, some, some-injective, none-ne-some}
+use Rattle.std.specs.declared.option.Option.{Option}
+use Rattle.std.specs.declared.option.Option.TheVariants.{None, Some}
+use Rattle.std.proofs.lemmas.Option.{none-some, same_Some}
 use mathlib.Core.List.{List, [], ◌∷◌, ◌++◌, append-nil, append_assoc}
 use native.Mathlib.Omega.{arith}
 use native.Mathlib.Nat.{add-zero}
@@ -29,22 +31,22 @@ pub record Digits (most n : ℕ) (w : Bytes) : Type 0 where
   pub high : length w ≤ most
   pub is : value 0 w ≡ n
 
-from_value : (a : ℕ) (w : Bytes) (n : ℕ) → number_from a w ≡ some n → (all digit w ≡ true) × (value a w ≡ n)
+from_value : (a : ℕ) (w : Bytes) (n : ℕ) → number_from a w ≡ Some n → (all digit w ≡ true) × (value a w ≡ n)
 unfolding value
-from_value a [] n e = (all_nil digit, some-injective a n (sym (from_nil a) ∙ e))
+from_value a [] n e = (all_nil digit, same_Some a n (sym (from_nil a) ∙ e))
 from_value a (d ∷ w) n e = go (digit d) refl (from_value (a * 10 + (d - 48)) w n)
   where
-    go : (t : Bool) → digit d ≡ t → (number_from (a * 10 + (d - 48)) w ≡ some n → (all digit w ≡ true) × (value (a * 10 + (d - 48)) w ≡ n)) → (all digit (d ∷ w) ≡ true) × (value (a * 10 + (d - 48)) w ≡ n)
+    go : (t : Bool) → digit d ≡ t → (number_from (a * 10 + (d - 48)) w ≡ Some n → (all digit w ≡ true) × (value (a * 10 + (d - 48)) w ≡ n)) → (all digit (d ∷ w) ≡ true) × (value (a * 10 + (d - 48)) w ≡ n)
     go true f ih = (all_both digit d w f (ih (sym (from_digit a d w f) ∙ e)).0, (ih (sym (from_digit a d w f) ∙ e)).1)
-    go false f ih = absurd (none-ne-some n (sym (from_other a d w f) ∙ e))
+    go false f ih = absurd (none-some n (sym (from_other a d w f) ∙ e))
 
-digits_said : (most n : ℕ) (w : Bytes) → digits_of most w ≡ some n → Digits most n w
+digits_said : (most n : ℕ) (w : Bytes) → digits_of most w ≡ Some n → Digits most n w
 digits_said most n w e =
     let b : (0 < length w) × (length w ≤ most) × (n < 10 ^ most) = digits_of_bound most n w e in
     let p : (all digit w ≡ true) × (value 0 w ≡ n) = from_value 0 w n (sym (digits_of_lem most w b.0 b.1) ∙ e) in
     record { each = p.0; low = b.0; high = b.1; is = p.1 }
 
-number_digits : (n : ℕ) (w : Bytes) → number w ≡ some n → Digits 6 n w
+number_digits : (n : ℕ) (w : Bytes) → number w ≡ Some n → Digits 6 n w
 number_digits n w e = digits_said 6 n w (sym (number_is w) ∙ e)
 
 -- BYTES THAT END AN ENTRY: no second letter, no digit, no `/`
@@ -127,7 +129,7 @@ ends_behind t (a ∷ v) b w = ends_behind (upper a) v b w
 abbrev paid : Stop → FState → Move
 paid q r = record { told = owed q; state = r }
 
-stop_end : (q : Stop) → finish (state_of q) ≡ some (owed q)
+stop_end : (q : Stop) → finish (state_of q) ≡ Some (owed q)
 stop_end blank_stop = refl
 stop_end (one_stop c m a) = refl
 stop_end (two_stop x) = refl
@@ -160,8 +162,8 @@ record Ran (v : Bytes) (cs : List Counted) : Type 0 where
   ends : bare stop ≡ true → ends_upper false v ≡ true
   runs : (x : Bool) (t : Bytes) → frun (between x) (v ++ t) ≡ join told (frun (state_of stop) t)
 
-ran_end : {v : Bytes} {cs : List Counted} (f : Ran v cs) → frun (between false) v ≡ some cs
-ran_end {v} f = ap (frun (between false)) (sym (append-nil v)) ∙ f.runs false [] ∙ ap (join f.told) (run_nil (state_of f.stop) ∙ stop_end f.stop) ∙ ap some f.all_told
+ran_end : {v : Bytes} {cs : List Counted} (f : Ran v cs) → frun (between false) v ≡ Some cs
+ran_end {v} f = ap (frun (between false)) (sym (append-nil v)) ∙ f.runs false [] ∙ ap (join f.told) (run_nil (state_of f.stop) ∙ stop_end f.stop) ∙ ap Some f.all_told
 
 ran_on : {v : Bytes} {cs : List Counted} (f : Ran v cs) (x : Bool) (b : ℕ) (t : Bytes) (r : FState) → fstep (state_of f.stop) b ≡ paid f.stop r → frun (between x) (v ++ (b ∷ t)) ≡ join cs (frun r t)
 ran_on f x b t r e =
@@ -249,43 +251,43 @@ module _ (p : Bytes) (c : Bool) (m : ℕ) (start : (y : Bool) (a : ℕ) (t : Byt
     runs = λ y t. ap (frun (between y)) (append_assoc p (a ∷ b ∷ []) t) ∙ start y a (b ∷ t) u ∙ run_goes (at_one c m a) (at_two (sym_of c m a b)) b t (one_lower c m a b l);
   }
 
-  spelt_letters : (r : Bytes) (x : Sym) → lettered c m r ≡ some x → Spelt (p ++ r) x
+  spelt_letters : (r : Bytes) (x : Sym) → lettered c m r ≡ Some x → Spelt (p ++ r) x
   unfolding lettered
-  spelt_letters [] x e = absurd (none-ne-some x e)
+  spelt_letters [] x e = absurd (none-some x e)
   spelt_letters (a ∷ []) x e = go (upper a) refl e
     where
-      go : (t : Bool) → upper a ≡ t → elim t as (λ (s : Bool). Option Sym) [ true ↦ some (sym_of c m a 0) | false ↦ none ] ≡ some x → Spelt (p ++ (a ∷ [])) x
-      go true u q = subst (λ (z : Sym). Spelt (p ++ (a ∷ [])) z) (some-injective (sym_of c m a 0) x q) (spelt_one a u)
-      go false u q = absurd (none-ne-some x q)
+      go : (t : Bool) → upper a ≡ t → elim t as (λ (s : Bool). Option Sym) [ true ↦ Some (sym_of c m a 0) | false ↦ None ] ≡ Some x → Spelt (p ++ (a ∷ [])) x
+      go true u q = subst (λ (z : Sym). Spelt (p ++ (a ∷ [])) z) (same_Some (sym_of c m a 0) x q) (spelt_one a u)
+      go false u q = absurd (none-some x q)
   spelt_letters (a ∷ b ∷ []) x e = go (upper a && lower b) refl e
     where
-      go : (t : Bool) → (upper a && lower b) ≡ t → elim t as (λ (s : Bool). Option Sym) [ true ↦ some (sym_of c m a b) | false ↦ none ] ≡ some x → Spelt (p ++ (a ∷ b ∷ [])) x
+      go : (t : Bool) → (upper a && lower b) ≡ t → elim t as (λ (s : Bool). Option Sym) [ true ↦ Some (sym_of c m a b) | false ↦ None ] ≡ Some x → Spelt (p ++ (a ∷ b ∷ [])) x
       go true u q =
-          subst (λ (z : Sym). Spelt (p ++ (a ∷ b ∷ [])) z) (some-injective (sym_of c m a b) x q) (spelt_two a b (and_parts (upper a) (lower b) u).0 (and_parts (upper a) (lower b) u).1)
-      go false u q = absurd (none-ne-some x q)
-  spelt_letters (a ∷ b ∷ d ∷ w) x e = absurd (none-ne-some x e)
+          subst (λ (z : Sym). Spelt (p ++ (a ∷ b ∷ [])) z) (same_Some (sym_of c m a b) x q) (spelt_two a b (and_parts (upper a) (lower b) u).0 (and_parts (upper a) (lower b) u).1)
+      go false u q = absurd (none-some x q)
+  spelt_letters (a ∷ b ∷ d ∷ w) x e = absurd (none-some x e)
 
 mass_first : (p : Bytes) (m : ℕ) → Digits 3 m p → (y : Bool) (a : ℕ) (t : Bytes) → upper a ≡ true → frun (between y) (94 ∷ (p ++ (a ∷ t))) ≡ frun (at_one true m a) t
 unfolding within
 mass_first p m d y a t u =
     run_goes (between y) at_caret 94 (p ++ (a ∷ t)) (between_caret y 94 refl refl) ∙ mass_start p a t d.each d.low d.high u ∙ ap (λ (n : ℕ). frun (at_one true n a) t) d.is
 
-spelt_massed : (w : Bytes) (x : Sym) → massed w ≡ some x → Spelt (94 ∷ w) x
+spelt_massed : (w : Bytes) (x : Sym) → massed w ≡ Some x → Spelt (94 ∷ w) x
 unfolding massed
 spelt_massed w x e = go (digits_of 3 (take (span digit w) w)) refl e
   where
-    go : (o : Option ℕ) → digits_of 3 (take (span digit w) w) ≡ o → (o and_then λ m. lettered true m (drop (span digit w) w)) ≡ some x → Spelt (94 ∷ w) x
-    go none f q = absurd (none-ne-some x q)
-    go (some m) f q =
+    go : (o : Option ℕ) → digits_of 3 (take (span digit w) w) ≡ o → (o and_then λ m. lettered true m (drop (span digit w) w)) ≡ Some x → Spelt (94 ∷ w) x
+    go None f q = absurd (none-some x q)
+    go (Some m) f q =
         subst (λ (s : Bytes). Spelt (94 ∷ s) x) (take-append-drop (span digit w) w)
         (spelt_letters (94 ∷ take (span digit w) w) true m (mass_first (take (span digit w) w) m (digits_said 3 m (take (span digit w) w) f)) (drop (span digit w) w) x q)
 
-spelt : (v : Bytes) (x : Sym) → symbol v ≡ some x → Spelt v x
+spelt : (v : Bytes) (x : Sym) → symbol v ≡ Some x → Spelt v x
 unfolding symbol
-spelt [] x e = absurd (none-ne-some x e)
+spelt [] x e = absurd (none-some x e)
 spelt (b ∷ w) x e = go (eqb b 94) refl e
   where
-    go : (t : Bool) → eqb b 94 ≡ t → elim t as (λ (s : Bool). Option Sym) [ true ↦ massed w | false ↦ lettered false 0 (b ∷ w) ] ≡ some x → Spelt (b ∷ w) x
+    go : (t : Bool) → eqb b 94 ≡ t → elim t as (λ (s : Bool). Option Sym) [ true ↦ massed w | false ↦ lettered false 0 (b ∷ w) ] ≡ Some x → Spelt (b ∷ w) x
     go true f q = subst (λ (c : ℕ). Spelt (c ∷ w) x) (sym (eqb-true b 94 f)) (spelt_massed w x q)
     go false f q = spelt_letters [] false 0 (λ y a t u. run_goes (between y) (at_one false 0 a) a t (between_upper y a u)) (b ∷ w) x q
 
@@ -340,9 +342,9 @@ ran (blank_behind b g f) = ran_behind b g (ran f)
 ran (blank_between b g f h) = ran_between b g (ran f) (ran h)
 ran (touching v a b w l u f h) = ran_touching v a b w l u (ran f) (ran h)
 
-run_says : {v : Bytes} {cs : List Counted} → Says v cs → frun (between false) v ≡ some cs
+run_says : {v : Bytes} {cs : List Counted} → Says v cs → frun (between false) v ≡ Some cs
 run_says (fragment f) = ran_end (ran f)
 run_says (starred {w = w} {cs = cs} f s) = ran_on (ran f) false 42 w (between false) (stop_star (ran f).stop) ∙ ap (join cs) (run_says s)
 
-pub says_read : {v : Bytes} {cs : List Counted} → Says v cs → formula_shape v ≡ some cs
+pub says_read : {v : Bytes} {cs : List Counted} → Says v cs → formula_shape v ≡ Some cs
 says_read {v} s = formula_is v ∙ run_says s

@@ -109,7 +109,7 @@ lows_none n = record { long = count_long 1 n; low = λ a l h. omega (arith, own 
     own : (a : ℕ) → 1 ≤ a → a ≤ n → get_or (count_up 1 n) (a - 1) 0 ≡ a
     own a l h = count_at_lem 1 n (a - 1) (omega (arith, l, h)) ∙ omega (arith, l)
 
-module _ (n : ℕ) (ls : List ℕ) (k : Lows n ls) (a b : ℕ) (some : 1 ≤ min a b) where
+module _ (n : ℕ) (ls : List ℕ) (k : Lows n ls) (a b : ℕ) (Some : 1 ≤ min a b) where
   pub lower_at_lem : (c : ℕ) → 1 ≤ c → c ≤ n → lowest_of (united a b ls) c ≡ lower a b (lowest_of ls c)
   lower_at_lem c l h = united_at a b ls (c - 1) (omega (arith, l, h, k.long))
 
@@ -117,10 +117,10 @@ module _ (n : ℕ) (ls : List ℕ) (k : Lows n ls) (a b : ℕ) (some : 1 ≤ min
   not_above_lem c l = by (lower_view a b (lowest_of ls c)) (min_view a b)
     where
       by : ((lowest_of ls c ≡ a) ⊎ (lowest_of ls c ≡ b)) ⊎ (lower a b (lowest_of ls c) ≡ lowest_of ls c) → ((min a b ≡ a) × (a ≤ b)) ⊎ ((min a b ≡ b) × (b ≤ a)) → (1 ≤ lower a b (lowest_of ls c)) × (lower a b (lowest_of ls c) ≤ lowest_of ls c)
-      by (inl (inl e)) (inl q) = (omega (arith, some, lower_left a b _ e), omega (arith, lower_left a b _ e, e, q.0))
-      by (inl (inl e)) (inr q) = (omega (arith, some, lower_left a b _ e), omega (arith, lower_left a b _ e, e, q.0, q.1))
-      by (inl (inr e)) (inl q) = (omega (arith, some, lower_right a b _ e), omega (arith, lower_right a b _ e, e, q.0, q.1))
-      by (inl (inr e)) (inr q) = (omega (arith, some, lower_right a b _ e), omega (arith, lower_right a b _ e, e, q.0))
+      by (inl (inl e)) (inl q) = (omega (arith, Some, lower_left a b _ e), omega (arith, lower_left a b _ e, e, q.0))
+      by (inl (inl e)) (inr q) = (omega (arith, Some, lower_left a b _ e), omega (arith, lower_left a b _ e, e, q.0, q.1))
+      by (inl (inr e)) (inl q) = (omega (arith, Some, lower_right a b _ e), omega (arith, lower_right a b _ e, e, q.0, q.1))
+      by (inl (inr e)) (inr q) = (omega (arith, Some, lower_right a b _ e), omega (arith, lower_right a b _ e, e, q.0))
       by (inr e) q = (omega (arith, e, l), omega (arith, e))
 
   lows_united : Lows n (united a b ls)
@@ -135,7 +135,7 @@ abbrev pub Level : List ℕ → Row → Type 0
 Level ls r = joins r ≡ true → lowest_of ls (get_or r.atoms 0 0) ≡ lowest_of ls (get_or r.atoms 1 0)
 
 pub data Levels (ls : List ℕ) : List Row → Type 0 where
-  none : Levels ls []
+  None : Levels ls []
   more : (r : Row) (rs : List Row) → Level ls r → Levels ls rs → Levels ls (r ∷ rs)
 
 -- what is known of the lowest atoms after some bonds, and after one more
@@ -143,7 +143,7 @@ pub record Known (n : ℕ) (rs : List Row) : Type 0 where
   pub lows : Lows n (lowest n rs)
   pub level : Levels (lowest n rs) rs
 
-module _ (n a b : ℕ) (ls : List ℕ) (k : Lows n ls) (some : 1 ≤ min a b) where
+module _ (n a b : ℕ) (ls : List ℕ) (k : Lows n ls) (Some : 1 ≤ min a b) where
   ends_stay : (r : Row) → row_ok Bonds n r ≡ true → Level ls r → Level (united a b ls) r
   ends_stay r ok level e = by (bond_ends n r ok)
     where
@@ -152,11 +152,11 @@ module _ (n a b : ℕ) (ls : List ℕ) (k : Lows n ls) (some : 1 ≤ min a b) wh
           let p : get_or r.atoms 0 0 ≡ d.x = ap (λ (l : List ℕ). get_or l 0 0) d.atoms in
           let q : get_or r.atoms 1 0 ≡ d.y = ap (λ (l : List ℕ). get_or l 1 0) d.atoms in
           let same : lowest_of ls d.x ≡ lowest_of ls d.y = ap (lowest_of ls) (sym p) ∙ level e ∙ ap (lowest_of ls) q in
-          ap (lowest_of (united a b ls)) p ∙ lower_at_lem n ls k a b some d.x d.low (omega (arith, d.rising, d.high)) ∙ ap (lower a b) same
-          ∙ sym (lower_at_lem n ls k a b some d.y (omega (arith, d.low, d.rising)) d.high) ∙ sym (ap (lowest_of (united a b ls)) q)
+          ap (lowest_of (united a b ls)) p ∙ lower_at_lem n ls k a b Some d.x d.low (omega (arith, d.rising, d.high)) ∙ ap (lower a b) same
+          ∙ sym (lower_at_lem n ls k a b Some d.y (omega (arith, d.low, d.rising)) d.high) ∙ sym (ap (lowest_of (united a b ls)) q)
 
   levels_stay : {rs : List Row} → all (row_ok Bonds n) rs ≡ true → Levels ls rs → Levels (united a b ls) rs
-  levels_stay ok none = none
+  levels_stay ok None = None
   levels_stay ok (more r rs l m) = let p = all_parts (row_ok Bonds n) r rs ok in more r rs (ends_stay r p.0 l) (levels_stay p.1 m)
 
 module _ (n : ℕ) (r : Row) (rs : List Row) (k : Known n rs) where
@@ -178,17 +178,17 @@ module _ (n : ℕ) (r : Row) (rs : List Row) (k : Known n rs) where
           let b : ℕ = lowest_of old d.y in
           let x_high : d.x ≤ n = omega (arith, d.rising, d.high) in
           let y_low : 1 ≤ d.y = omega (arith, d.low, d.rising) in
-          let some : 1 ≤ min a b = omega (arith, k.lows.low d.x d.low x_high, k.lows.low d.y y_low d.high) in
+          let Some : 1 ≤ min a b = omega (arith, k.lows.low d.x d.low x_high, k.lows.low d.y y_low d.high) in
           let p : get_or r.atoms 0 0 ≡ d.x = ap (λ (l : List ℕ). get_or l 0 0) d.atoms in
           let q : get_or r.atoms 1 0 ≡ d.y = ap (λ (l : List ℕ). get_or l 1 0) d.atoms in
           let is : lowest n (r ∷ rs) ≡ united a b old = lowest_cons n r rs ∙ joined_is r old e ∙ ap (λ (l : List ℕ). united (lowest_of old (get_or l 0 0)) (lowest_of old (get_or l 1 0)) old) d.atoms in
-          let left : lowest_of (united a b old) d.x ≡ min a b = lower_at_lem n old k.lows a b some d.x d.low x_high ∙ lower_left a b a refl in
-          let right : lowest_of (united a b old) d.y ≡ min a b = lower_at_lem n old k.lows a b some d.y y_low d.high ∙ lower_right a b b refl in
+          let left : lowest_of (united a b old) d.x ≡ min a b = lower_at_lem n old k.lows a b Some d.x d.low x_high ∙ lower_left a b a refl in
+          let right : lowest_of (united a b old) d.y ≡ min a b = lower_at_lem n old k.lows a b Some d.y y_low d.high ∙ lower_right a b b refl in
           let own : Level (united a b old) r = λ f. ap (lowest_of (united a b old)) p ∙ left ∙ sym (ap (lowest_of (united a b old)) q ∙ right) in
-          known_of (united a b old) is (lows_united n old k.lows a b some) (more r rs own (levels_stay n a b old k.lows some oks k.level))
+          known_of (united a b old) is (lows_united n old k.lows a b Some) (more r rs own (levels_stay n a b old k.lows Some oks k.level))
 
 pub known : (n : ℕ) (rs : List Row) → all (row_ok Bonds n) rs ≡ true → Known n rs
-known n [] h = record { lows = subst (Lows n) (sym (lowest_nil n)) (lows_none n); level = none }
+known n [] h = record { lows = subst (Lows n) (sym (lowest_nil n)) (lows_none n); level = None }
 known n (r ∷ rs) h = by (joins r) refl (all_parts (row_ok Bonds n) r rs h) (known n rs)
   where
     by : (t : Bool) → joins r ≡ t → (row_ok Bonds n r ≡ true) × (all (row_ok Bonds n) rs ≡ true) → (all (row_ok Bonds n) rs ≡ true → Known n rs) → Known n (r ∷ rs)

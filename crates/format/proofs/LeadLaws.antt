@@ -3,7 +3,8 @@
 use Prim.Native.Nat.{ℕ, suc, ◌<◌}
 use mathlib.Core.Path.{◌≡◌, refl, subst}
 use mathlib.Core.Bool.{Bool, true, false, not, ◌&&◌, ◌||◌}
-use mathlib.Core.Option.{Option, none, some}
+use Rattle.std.specs.declared.option.Option.{Option}
+use Rattle.std.specs.declared.option.Option.TheVariants.{None, Some}
 use mathlib.Core.List.{List, [], ◌∷◌}
 use native.Mathlib.Omega.{arith}
 use lib.ListN.{length, drop}
@@ -43,8 +44,8 @@ module _ (R : State → Type 0) where
   module _ (st : State) (here : R st) (body : (s : Structure) → R (with_body st s)) where
     atom_leads : (k : ℕ) (r : Option AtomRow) → Leads R (atom_turn k st r)
     unfolding atom_turn
-    atom_leads k none = stop_leads 9 (omega arith)
-    atom_leads k (some r) =
+    atom_leads k None = stop_leads 9 (omega arith)
+    atom_leads k (Some r) =
         if_leads (not (mass_ok r.symbol && leb r.hydrogens 15)) 10 _ (omega arith)
         (if_leads (not (eqb r.number (suc (atom_count st)))) 11 _ (omega arith) (if_leads (unknown k r.symbol) 12 _ (omega arith) (if_leads (leb 256 (atom_count st)) 14 _ (omega arith) (go_leads _ (body _)))))
 
@@ -55,8 +56,8 @@ module _ (R : State → Type 0) where
 
     row_leads : (l : ListOf) (r : Option Row) → Leads R (row_turn l st r)
     unfolding row_turn join_turn
-    row_leads l none = stop_leads 9 (omega arith)
-    row_leads l (some r) =
+    row_leads l None = stop_leads 9 (omega arith)
+    row_leads l (Some r) =
         let rs : List Row = rows_of l st.body in
         if_leads (not (ranged l r.value)) 10 _ (omega arith)
         (if_leads (not (all (within 1 (atom_count st)) r.atoms)) 11 _ (omega arith)
@@ -64,8 +65,8 @@ module _ (R : State → Type 0) where
         (if_leads (any (clash l (ordered r)) rs) 13 _ (omega arith) (joined_leads (any (meets l (ordered r)) rs) (leb (most l) (length rs)) _ (body _)))))
 
     value_of_id : (alone : Bool) (n : Option ℕ) → Leads R (id_value st alone n)
-    value_of_id alone none = stop_leads 9 (omega arith)
-    value_of_id alone (some n) = if_leads (not alone) 9 _ (omega arith) (if_leads (eqb n 0) 10 _ (omega arith) (go_leads _ (body _)))
+    value_of_id alone None = stop_leads 9 (omega arith)
+    value_of_id alone (Some n) = if_leads (not alone) 9 _ (omega arith) (if_leads (eqb n 0) 10 _ (omega arith) (go_leads _ (body _)))
 
     unless_leads : (fs : List Bytes) (t : Turn) → Leads R t → Leads R (unless_blank st fs t)
     unless_leads [] t k = go_leads st here
@@ -107,8 +108,8 @@ module _ (R : State → Type 0) where
     module _ (more : (r : XyzRow) → R (with_geometry st (geometry st.geometry.greatest st.geometry.scale (r ∷ st.geometry.rows)))) where
       xyz_leads : (r : Option XyzRow) → Leads R (xyz_turn st r)
       unfolding xyz_turn
-      xyz_leads none = stop_leads 9 (omega arith)
-      xyz_leads (some r) =
+      xyz_leads None = stop_leads 9 (omega arith)
+      xyz_leads (Some r) =
           if_leads (not (within 1 (atom_count st) r.atom)) 11 _ (omega arith) (if_leads (any (λ q. leb r.atom q.atom) st.geometry.rows) 13 _ (omega arith) (go_leads _ (more r)))
 
       pub xyz_line_leads : (fs : List Bytes) → Leads R (xyz_line st fs)
@@ -120,19 +121,19 @@ module _ (R : State → Type 0) where
         (scaled : (f : Factor) → R (with_geometry st (geometry st.geometry.greatest f st.geometry.rows))) where
       formula_leads : (k : ℕ) (r : Option (List Counted)) → Leads R (formula_turn k st r)
       unfolding formula_turn
-      formula_leads k none = stop_leads 9 (omega arith)
-      formula_leads k (some cs) =
+      formula_leads k None = stop_leads 9 (omega arith)
+      formula_leads k (Some cs) =
           if_leads (not (all (λ c. mass_ok c.symbol && within 1 9999 c.count) cs)) 10 _ (omega arith) (if_leads (any (λ c. unknown k c.symbol) cs) 12 _ (omega arith) (go_leads _ (formula _)))
 
       greatest_leads : (n : Option ℕ) → Leads R (greatest_turn st n)
       unfolding greatest_turn
-      greatest_leads none = stop_leads 9 (omega arith)
-      greatest_leads (some n) = go_leads _ (bound n)
+      greatest_leads None = stop_leads 9 (omega arith)
+      greatest_leads (Some n) = go_leads _ (bound n)
 
       factor_leads : (f : Option Factor) → Leads R (factor_turn st f)
       unfolding factor_turn
-      factor_leads none = stop_leads 9 (omega arith)
-      factor_leads (some f) = if_leads (eqb f.digits 0) 10 _ (omega arith) (go_leads _ (scaled f))
+      factor_leads None = stop_leads 9 (omega arith)
+      factor_leads (Some f) = if_leads (eqb f.digits 0) 10 _ (omega arith) (go_leads _ (scaled f))
 
       module _ (h : Holds) (rows : h ≡ Xyz XyzRows → (fs : List Bytes) → Leads R (xyz_line st fs)) where
         pub value_leads : (u : Rules) (from : ℕ) (v : Bytes) → Leads R (value_turn u h st from v)

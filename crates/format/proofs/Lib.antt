@@ -15,6 +15,7 @@ pub mod FieldLaws
 pub mod TextLaws
 pub mod AcceptedLaws
 pub mod RefusedLaws
+pub mod RefusalLaws
 pub mod WalkLaws
 pub mod NumberLaws
 pub mod SymbolLaws

@@ -3,7 +3,8 @@
 use Prim.Native.Nat.{ℕ, zero, suc, ◌+◌, ◌-◌, ◌*◌, ◌/◌, ◌%◌, ◌^◌, ◌≤◌, ◌<◌}
 use mathlib.Core.Path.{◌≡◌, refl, sym, ap, ◌∙◌}
 use mathlib.Core.Bool.{Bool, true, false}
-use mathlib.Core.Option.{none, some, some-injective, none-ne-some}
+use Rattle.std.specs.declared.option.Option.TheVariants.{None, Some}
+use Rattle.std.proofs.lemmas.Option.{none-some, same_Some}
 use mathlib.Core.List.{List, [], ◌∷◌, ◌++◌, map}
 use native.Mathlib.Omega.{arith}
 use native.Mathlib.Nat.{pow-suc, zero-add, add-zero, pow-le-pow_right}
@@ -26,11 +27,11 @@ pub from_digit : (a d : ℕ) (w : Bytes) → digit d ≡ true → number_from a 
 unfolding number_from
 from_digit a d w e = rw (e, number_from)
 
-pub from_other : (a d : ℕ) (w : Bytes) → digit d ≡ false → number_from a (d ∷ w) ≡ none
+pub from_other : (a d : ℕ) (w : Bytes) → digit d ≡ false → number_from a (d ∷ w) ≡ None
 unfolding number_from
 from_other a d w e = rw (e, number_from)
 
-pub from_nil : (a : ℕ) → number_from a [] ≡ some a
+pub from_nil : (a : ℕ) → number_from a [] ≡ Some a
 unfolding number_from
 from_nil a = refl
 
@@ -38,10 +39,10 @@ module _ (a : ℕ) (w : Bytes) (i : ℕ) where
   pub from_at_digit : i < length w → digit (get_or w i 0) ≡ true → number_from a (drop i w) ≡ number_from (a * 10 + (get_or w i 0 - 48)) (drop (i + 1) w)
   from_at_digit h e = rw (drop-cons w i 0 h, add-one) (from_digit a (get_or w i 0) (drop (suc i) w) e)
 
-  pub from_at_other : i < length w → digit (get_or w i 0) ≡ false → number_from a (drop i w) ≡ none
+  pub from_at_other : i < length w → digit (get_or w i 0) ≡ false → number_from a (drop i w) ≡ None
   from_at_other h e = rw (drop-cons w i 0 h) (from_other a (get_or w i 0) (drop (suc i) w) e)
 
-  pub from_at_end : length w ≤ i → number_from a (drop i w) ≡ some a
+  pub from_at_end : length w ≤ i → number_from a (drop i w) ≡ Some a
   from_at_end h = ap (number_from a) (drop_of_length-le w h) ∙ from_nil a
 
 -- so many digits
@@ -50,11 +51,11 @@ module _ (most : ℕ) (w : Bytes) where
   unfolding digits_of
   digits_of_lem h k = rw (within_is 1 most (length w) h k, digits_of)
 
-  pub digits_of_none : length w ≡ 0 → digits_of most w ≡ none
+  pub digits_of_none : length w ≡ 0 → digits_of most w ≡ None
   unfolding digits_of
   digits_of_none h = rw (within_low 1 most (length w) (omega arith), digits_of)
 
-  pub digits_of_long : most < length w → digits_of most w ≡ none
+  pub digits_of_long : most < length w → digits_of most w ≡ None
   unfolding digits_of
   digits_of_long h = rw (within_high 1 most (length w) h, digits_of)
 
@@ -67,7 +68,7 @@ unfoldable pub value : ℕ → Bytes → ℕ
 value a [] = a
 value a (d ∷ w) = value (a * 10 + (d - 48)) w
 
-pub from_digits : (a : ℕ) (w : Bytes) → all digit w ≡ true → number_from a w ≡ some (value a w)
+pub from_digits : (a : ℕ) (w : Bytes) → all digit w ≡ true → number_from a w ≡ Some (value a w)
 unfolding value
 from_digits a [] h = from_nil a
 from_digits a (d ∷ w) h = from_digit a d w (all_parts digit d w h).0 ∙ from_digits (a * 10 + (d - 48)) w (all_parts digit d w h).1
@@ -89,20 +90,20 @@ value_first d w = let q : 0 * 10 + (d - 48) ≡ d - 48 = omega arith in ap (λ (
 pub bound_more : (a k d : ℕ) → a < 10 ^ k → digit d ≡ true → a * 10 + (d - 48) < 10 ^ suc k
 bound_more a k d h e = rw pow-suc (omega (arith, (digit_bounds d e).0, (digit_bounds d e).1))
 
-pub from_bound : (a k n : ℕ) (w : Bytes) → a < 10 ^ k → number_from a w ≡ some n → n < 10 ^ (k + length w)
-from_bound a k n [] h e = let q : a ≡ n = some-injective a n (sym (from_nil a) ∙ e) in rw (add-zero k) (rw q at h)
+pub from_bound : (a k n : ℕ) (w : Bytes) → a < 10 ^ k → number_from a w ≡ Some n → n < 10 ^ (k + length w)
+from_bound a k n [] h e = let q : a ≡ n = same_Some a n (sym (from_nil a) ∙ e) in rw (add-zero k) (rw q at h)
 from_bound a k n (d ∷ w) h e = go (digit d) refl (from_bound (a * 10 + (d - 48)) (suc k) n w)
   where
-    go : (t : Bool) → digit d ≡ t → (a * 10 + (d - 48) < 10 ^ suc k → number_from (a * 10 + (d - 48)) w ≡ some n → n < 10 ^ (suc k + length w)) → n < 10 ^ (k + suc (length w))
+    go : (t : Bool) → digit d ≡ t → (a * 10 + (d - 48) < 10 ^ suc k → number_from (a * 10 + (d - 48)) w ≡ Some n → n < 10 ^ (suc k + length w)) → n < 10 ^ (k + suc (length w))
     go true f ih = let s : k + suc (length w) ≡ suc k + length w = omega arith in rw s (ih (bound_more a k d h f) (sym (from_digit a d w f) ∙ e))
-    go false f ih = absurd (none-ne-some n (sym (from_other a d w f) ∙ e))
+    go false f ih = absurd (none-some n (sym (from_other a d w f) ∙ e))
 
-pub digits_of_bound : (most n : ℕ) (w : Bytes) → digits_of most w ≡ some n → (0 < length w) × (length w ≤ most) × (n < 10 ^ most)
+pub digits_of_bound : (most n : ℕ) (w : Bytes) → digits_of most w ≡ Some n → (0 < length w) × (length w ≤ most) × (n < 10 ^ most)
 digits_of_bound most n w e = go (leb 1 (length w)) (leb (length w) most) refl refl
   where
     go : (t u : Bool) → leb 1 (length w) ≡ t → leb (length w) most ≡ u → (0 < length w) × (length w ≤ most) × (n < 10 ^ most)
-    go false u p q = let h : length w < 1 = leb-false 1 (length w) p in absurd (none-ne-some n (sym (digits_of_none most w (omega arith)) ∙ e))
-    go true false p q = absurd (none-ne-some n (sym (digits_of_long most w (leb-false (length w) most q)) ∙ e))
+    go false u p q = let h : length w < 1 = leb-false 1 (length w) p in absurd (none-some n (sym (digits_of_none most w (omega arith)) ∙ e))
+    go true false p q = absurd (none-some n (sym (digits_of_long most w (leb-false (length w) most q)) ∙ e))
     go true true p q =
         let h : 1 ≤ length w = leb-true 1 (length w) p in
         let k : length w ≤ most = leb-true (length w) most q in
@@ -111,7 +112,7 @@ digits_of_bound most n w e = go (leb 1 (length w)) (leb (length w) most) refl re
         let m : 10 ^ length w ≤ 10 ^ most = pow-le-pow_right (omega arith) k in
         (h, k, omega arith)
 
-pub number_bound : (n : ℕ) (w : Bytes) → number w ≡ some n → n < 1000000
+pub number_bound : (n : ℕ) (w : Bytes) → number w ≡ Some n → n < 1000000
 number_bound n w e = (digits_of_bound 6 n w (sym (number_is w) ∙ e)).2
 
 -- PRINTED NUMBERS
@@ -131,10 +132,10 @@ pub is_digit : (n : ℕ) → n < 10 → digit (48 + n) ≡ true
 is_digit n h = within_is 48 57 (48 + n) (omega arith) (omega arith)
 
 -- by whether there is one digit: what holds of one, and of one more behind some, holds of all
-module _ (P : ℕ → ℕ → Bytes → Type 0) (none : (n : ℕ) → P 0 n []) (one : (k n : ℕ) → n < 10 → P (suc k) n ((48 + n) ∷ []))
+module _ (P : ℕ → ℕ → Bytes → Type 0) (None : (n : ℕ) → P 0 n []) (one : (k n : ℕ) → n < 10 → P (suc k) n ((48 + n) ∷ []))
     (more : (k n : ℕ) → 10 ≤ n → P k (n / 10) (digits_in k (n / 10)) → P (suc k) n (digits_in k (n / 10) ++ ((48 + n % 10) ∷ []))) where
   digits_by : (k n : ℕ) → P k n (digits_in k n)
-  digits_by zero n = rw (digits_nil n) (none n)
+  digits_by zero n = rw (digits_nil n) (None n)
   digits_by (suc k) n = go (ltb n 10) refl (digits_by k (n / 10))
     where
       go : (t : Bool) → ltb n 10 ≡ t → P k (n / 10) (digits_in k (n / 10)) → P (suc k) n (digits_in (suc k) n)
@@ -224,24 +225,24 @@ pub digits_printed : (n : ℕ) → all printed (digits n) ≡ true
 digits_printed n = all_imply digit printed digit_printed (digits n) (printed_number n).digits
 
 -- THE WAY BACK
-pub digits_of_back : (j n : ℕ) → j ≤ 5 → n < 10 ^ suc j → digits_of (suc j) (digits n) ≡ some n
+pub digits_of_back : (j n : ℕ) → j ≤ 5 → n < 10 ^ suc j → digits_of (suc j) (digits n) ≡ Some n
 unfolding digits
 digits_of_back j n r h =
     let m : 10 ^ suc j ≤ 10 ^ 6 = pow-le-pow_right (omega arith) {i = suc j} {j = 6} (omega arith) in
-    digits_of_lem (suc j) (digits_in 6 n) (digits_some 5 n) (digits_few 6 j n h) ∙ from_digits 0 (digits_in 6 n) (digits_digits 6 n) ∙ ap some (digits_value 6 n (omega arith))
+    digits_of_lem (suc j) (digits_in 6 n) (digits_some 5 n) (digits_few 6 j n h) ∙ from_digits 0 (digits_in 6 n) (digits_digits 6 n) ∙ ap Some (digits_value 6 n (omega arith))
 
-pub number_back : (n : ℕ) → n < 1000000 → number (digits n) ≡ some n
+pub number_back : (n : ℕ) → n < 1000000 → number (digits n) ≡ Some n
 number_back n h = number_is (digits n) ∙ digits_of_back 5 n (omega arith) h
 
-pub natural_back : (n : ℕ) → n < 1000000 → natural (digits n) ≡ some (pos n)
+pub natural_back : (n : ℕ) → n < 1000000 → natural (digits n) ≡ Some (pos n)
 unfolding natural
 natural_back n h = rw (number_back n h)
 
-pub negative_back : (n : ℕ) → suc n < 1000000 → negative (digits (suc n)) ≡ some (negsuc n)
+pub negative_back : (n : ℕ) → suc n < 1000000 → negative (digits (suc n)) ≡ Some (negsuc n)
 unfolding negative
 negative_back n h = rw (number_back (suc n) h)
 
-pub signed_back : (v : ℤ) → nat_abs v < 1000000 → signed (signed_of v) ≡ some v
+pub signed_back : (v : ℤ) → nat_abs v < 1000000 → signed (signed_of v) ≡ Some v
 unfolding signed
 signed_back (pos n) h = natural_back n h
 signed_back (negsuc n) h = negative_back n h
@@ -254,7 +255,7 @@ signed_printed (negsuc n) = (omega arith, all_both printed 45 (digits (suc n)) (
 abbrev pub small : ℕ → Bool
 small n = ltb n 1000000
 
-pub numbers_back : (ns : List ℕ) → all small ns ≡ true → numbers (map digits ns) ≡ some ns
+pub numbers_back : (ns : List ℕ) → all small ns ≡ true → numbers (map digits ns) ≡ Some ns
 unfolding numbers
 numbers_back [] h = refl
 numbers_back (n ∷ ns) h = let p : (small n ≡ true) × (all small ns ≡ true) = all_parts small n ns h in rw (number_back n (ltb-true _ _ p.0), numbers_back ns p.1)

@@ -3,7 +3,8 @@
 use Prim.Native.Nat.{ℕ, zero, suc, ◌≤◌, ◌<◌}
 use mathlib.Core.Path.{◌≡◌, refl, sym, ap, ◌∙◌}
 use mathlib.Core.Bool.{Bool, true, false, ◌||◌}
-use mathlib.Core.Option.{Option, some}
+use Rattle.std.specs.declared.option.Option.{Option}
+use Rattle.std.specs.declared.option.Option.TheVariants.{Some}
 use mathlib.Core.List.{List, [], ◌∷◌, ◌++◌, map}
 use Prim.Native.String.{String}
 use native.Mathlib.Omega.{arith}
@@ -48,7 +49,7 @@ unfolding row_ok
 fine_row l n r f = rw (f.value, f.group, f.size, f.listed) f.ascending
 
 -- ATOMS, A LETTER, WHAT MAY FOLLOW
-pub first_back : (ns : List ℕ) (ws : List Bytes) → all small ns ≡ true → first_numbers (length ns) (map digits ns ++ ws) ≡ some ns
+pub first_back : (ns : List ℕ) (ws : List Bytes) → all small ns ≡ true → first_numbers (length ns) (map digits ns ++ ws) ≡ Some ns
 unfolding first_numbers
 first_back [] ws h = refl
 first_back (n ∷ ns) ws h =
@@ -64,17 +65,17 @@ drop_behind [] w ws = refl
 drop_behind (n ∷ ns) w ws = drop_behind ns w ws
 
 pub marked_back : (from : ℕ) (letters : String) (last : Bytes → Option ℕ) (ns : List ℕ) (w : Bytes) (ws : List Bytes) (v g : ℕ) →
-    all small ns ≡ true → place_in from w (bytes letters) ≡ some v → optional last ws ≡ some g → marked (length ns) from letters last (map digits ns ++ (w ∷ ws)) ≡ some (row ns (pos v) g)
+    all small ns ≡ true → place_in from w (bytes letters) ≡ Some v → optional last ws ≡ Some g → marked (length ns) from letters last (map digits ns ++ (w ∷ ws)) ≡ Some (row ns (pos v) g)
 unfolding marked
 marked_back from letters last ns w ws v g h e f = rw (first_back ns (w ∷ ws) h, field_behind ns w ws, e, drop_behind ns w ws, f)
 
 -- A VALUE AND ATOMS
-pub spread_back : (value : Bytes → Option ℤ) (w : Bytes) (ns : List ℕ) (v : ℤ) → all small ns ≡ true → value w ≡ some v → spread value (w ∷ map digits ns) ≡ some (row ns v 0)
+pub spread_back : (value : Bytes → Option ℤ) (w : Bytes) (ns : List ℕ) (v : ℤ) → all small ns ≡ true → value w ≡ Some v → spread value (w ∷ map digits ns) ≡ Some (row ns v 0)
 unfolding spread
 spread_back value w ns v h e = rw (e, numbers_back ns h)
 
 -- LETTERS of a value in its range
-bond_letter : (n : ℕ) → within 1 5 n ≡ true → place_in 1 (letter_of "-SDTQA" (pos n)) (bytes "SDTQA") ≡ some n
+bond_letter : (n : ℕ) → within 1 5 n ≡ true → place_in 1 (letter_of "-SDTQA" (pos n)) (bytes "SDTQA") ≡ Some n
 unfolding place_in bytes same_by
 bond_letter zero h = absurd (omega (arith, (within_true 1 5 0 h).0))
 bond_letter (suc zero) h = refl
@@ -84,14 +85,14 @@ bond_letter (suc (suc (suc (suc zero)))) h = refl
 bond_letter (suc (suc (suc (suc (suc zero))))) h = refl
 bond_letter (suc (suc (suc (suc (suc (suc n)))))) h = absurd (omega (arith, (within_true 1 5 (suc (suc (suc (suc (suc (suc n)))))) h).1))
 
-centre_letter : (n : ℕ) → within 1 2 n ≡ true → place_in 1 (letter_of "0PM" (pos n)) (bytes "PM") ≡ some n
+centre_letter : (n : ℕ) → within 1 2 n ≡ true → place_in 1 (letter_of "0PM" (pos n)) (bytes "PM") ≡ Some n
 unfolding place_in bytes same_by
 centre_letter zero h = absurd (omega (arith, (within_true 1 2 0 h).0))
 centre_letter (suc zero) h = refl
 centre_letter (suc (suc zero)) h = refl
 centre_letter (suc (suc (suc n))) h = absurd (omega (arith, (within_true 1 2 (suc (suc (suc n))) h).1))
 
-pair_letter : (n : ℕ) → within 0 2 n ≡ true → place_in 0 (letter_of "0PM" (pos n)) (bytes "0PM") ≡ some n
+pair_letter : (n : ℕ) → within 0 2 n ≡ true → place_in 0 (letter_of "0PM" (pos n)) (bytes "0PM") ≡ Some n
 unfolding place_in bytes same_by
 pair_letter zero h = refl
 pair_letter (suc zero) h = refl
@@ -105,7 +106,7 @@ ranging_pos lowest highest (pos n) h = (refl, h)
 ranging_pos lowest highest (negsuc n) h = torn false h refl
 
 -- the group: left out where it is 0
-pub group_back : (g : ℕ) → (eqb g 0 || (upper g || lower g)) ≡ true → optional group (unless_zero g (g ∷ [])) ≡ some g
+pub group_back : (g : ℕ) → (eqb g 0 || (upper g || lower g)) ≡ true → optional group (unless_zero g (g ∷ [])) ≡ Some g
 unfolding group
 group_back zero h = refl
 group_back (suc g) h =
@@ -124,8 +125,8 @@ size_is : (n k : ℕ) → (eqb (suc k) 0 || eqb n (suc k)) ≡ true → n ≡ su
 size_is n k h = eqb-true n (suc k) (or_other (eqb (suc k) 0) (eqb n (suc k)) h (ne_eqb (suc k) 0 (λ q. omega arith)))
 
 -- a row whose value is the number that was read
-same_row : (ns : List ℕ) (v : ℤ) (g h : ℕ) → v ≡ pos (nat_abs v) → g ≡ h → ◌≡◌ {A = Option Row} (some (row ns (pos (nat_abs v)) g)) (some (row ns v h))
-same_row ns v g h e f = ap (λ (u : ℤ). some (row ns u g)) (sym e) ∙ ap (λ (k : ℕ). some (row ns v k)) f
+same_row : (ns : List ℕ) (v : ℤ) (g h : ℕ) → v ≡ pos (nat_abs v) → g ≡ h → ◌≡◌ {A = Option Row} (Some (row ns (pos (nat_abs v)) g)) (Some (row ns v h))
+same_row ns v g h e f = ap (λ (u : ℤ). Some (row ns u g)) (sym e) ∙ ap (λ (k : ℕ). Some (row ns v k)) f
 
 group_zero : (g : ℕ) → (eqb g 0 || false) ≡ true → g ≡ 0
 group_zero g h = go (eqb g 0) refl h
@@ -138,7 +139,7 @@ module _ (n : ℕ) (b : n < 1000000) (r : Row) where
   fine_small : (l : ListOf) → FineRow l n r → all small r.atoms ≡ true
   fine_small l f = within_small n r.atoms b f.listed
 
-  bonds_back : FineRow Bonds n r → row_shape Bonds (row_words Bonds r) ≡ some r
+  bonds_back : FineRow Bonds n r → row_shape Bonds (row_words Bonds r) ≡ Some r
   unfolding row_shape row_words ranged arity group_ok
   bonds_back f =
       let p : (r.value ≡ pos (nat_abs r.value)) × (within 1 5 (nat_abs r.value) ≡ true) = ranging_pos 1 5 r.value f.value in
@@ -147,7 +148,7 @@ module _ (n : ℕ) (b : n < 1000000) (r : Row) where
       ∙ marked_back 1 "SDTQA" nothing_more r.atoms w [] (nat_abs r.value) 0 (fine_small Bonds f) (bond_letter (nat_abs r.value) p.1) refl
       ∙ same_row r.atoms r.value 0 r.group p.0 (sym (group_zero r.group f.group))
 
-  centres_back : FineRow Centres n r → row_shape Centres (row_words Centres r) ≡ some r
+  centres_back : FineRow Centres n r → row_shape Centres (row_words Centres r) ≡ Some r
   unfolding row_shape row_words ranged arity group_ok
   centres_back f =
       let p : (r.value ≡ pos (nat_abs r.value)) × (within 1 2 (nat_abs r.value) ≡ true) = ranging_pos 1 2 r.value f.value in
@@ -157,7 +158,7 @@ module _ (n : ℕ) (b : n < 1000000) (r : Row) where
       ∙ marked_back 1 "PM" group r.atoms w ws (nat_abs r.value) r.group (fine_small Centres f) (centre_letter (nat_abs r.value) p.1) (group_back r.group f.group)
       ∙ same_row r.atoms r.value r.group r.group p.0 refl
 
-  pairs_back : FineRow Pairs n r → row_shape Pairs (row_words Pairs r) ≡ some r
+  pairs_back : FineRow Pairs n r → row_shape Pairs (row_words Pairs r) ≡ Some r
   unfolding row_shape row_words ranged arity group_ok
   pairs_back f =
       let p : (r.value ≡ pos (nat_abs r.value)) × (within 0 2 (nat_abs r.value) ≡ true) = ranging_pos 0 2 r.value f.value in
@@ -167,14 +168,14 @@ module _ (n : ℕ) (b : n < 1000000) (r : Row) where
       ∙ marked_back 0 "0PM" group r.atoms w ws (nat_abs r.value) r.group (fine_small Pairs f) (pair_letter (nat_abs r.value) p.1) (group_back r.group f.group)
       ∙ same_row r.atoms r.value r.group r.group p.0 refl
 
-  charges_back : FineRow Charges n r → row_shape Charges (row_words Charges r) ≡ some r
+  charges_back : FineRow Charges n r → row_shape Charges (row_words Charges r) ≡ Some r
   unfolding row_shape row_words ranged group_ok
   charges_back f =
       let k : nat_abs r.value < 1000000 = omega (arith, (within_true 1 99 (nat_abs r.value) f.value).1) in
       spread_back signed (signed_of r.value) r.atoms r.value (fine_small Charges f) (signed_back r.value k)
-      ∙ ap (λ (g : ℕ). some (row r.atoms r.value g)) (sym (group_zero r.group f.group))
+      ∙ ap (λ (g : ℕ). Some (row r.atoms r.value g)) (sym (group_zero r.group f.group))
 
-  radicals_back : FineRow Radicals n r → row_shape Radicals (row_words Radicals r) ≡ some r
+  radicals_back : FineRow Radicals n r → row_shape Radicals (row_words Radicals r) ≡ Some r
   unfolding row_shape row_words ranged group_ok
   radicals_back f =
       let p : (r.value ≡ pos (nat_abs r.value)) × (within 1 15 (nat_abs r.value) ≡ true) = ranging_pos 1 15 r.value f.value in
@@ -182,14 +183,14 @@ module _ (n : ℕ) (b : n < 1000000) (r : Row) where
       spread_back natural (digits (nat_abs r.value)) r.atoms (pos (nat_abs r.value)) (fine_small Radicals f) (natural_back (nat_abs r.value) k)
       ∙ same_row r.atoms r.value 0 r.group p.0 (sym (group_zero r.group f.group))
 
-  shape_of : (l : ListOf) → FineRow l n r → row_shape l (row_words l r) ≡ some r
+  shape_of : (l : ListOf) → FineRow l n r → row_shape l (row_words l r) ≡ Some r
   shape_of Bonds f = bonds_back f
   shape_of Charges f = charges_back f
   shape_of Radicals f = radicals_back f
   shape_of Centres f = centres_back f
   shape_of Pairs f = pairs_back f
 
-  pub shape_back : (l : ListOf) → row_ok l n r ≡ true → row_shape l (row_words l r) ≡ some r
+  pub shape_back : (l : ListOf) → row_ok l n r ≡ true → row_shape l (row_words l r) ≡ Some r
   shape_back l h = shape_of l (row_fine_lem l n r h)
 
 -- THE WORDS: not empty, of printed bytes
@@ -274,7 +275,7 @@ atom_fine_lem k a h =
       hydrogens = leb-true a.hydrogens 15 q.1;
     }
 
-hydrogens_back : (h : ℕ) → h < 1000000 → optional number (unless_zero h (digits h)) ≡ some h
+hydrogens_back : (h : ℕ) → h < 1000000 → optional number (unless_zero h (digits h)) ≡ Some h
 hydrogens_back zero b = refl
 hydrogens_back (suc h) b = number_back (suc h) b
 
@@ -286,7 +287,7 @@ module _ (k n : ℕ) (a : Atom) (b : k ≤ 103) (f : FineAtom k a) where
   kind_printable : Printable (spelt a.kind)
   kind_printable = spelt_printable a.kind f.low (omega (arith, f.high)) (omega (arith, f.mass))
 
-  pub atom_back : n < 1000000 → atom_shape (atom_words n a) ≡ some (record { number = n; symbol = spelt a.kind; hydrogens = a.hydrogens })
+  pub atom_back : n < 1000000 → atom_shape (atom_words n a) ≡ Some (record { number = n; symbol = spelt a.kind; hydrogens = a.hydrogens })
   unfolding atom_shape atom_words
   atom_back h = rw (number_back n h, symbol_back (spelt a.kind) kind_printable, hydrogens_back a.hydrogens (omega (arith, f.hydrogens)))
 

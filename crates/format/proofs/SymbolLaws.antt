@@ -4,7 +4,7 @@
 use Prim.Native.Nat.{ℕ, zero, suc, ◌+◌, ◌-◌, ◌≤◌, ◌<◌}
 use mathlib.Core.Path.{◌≡◌, refl, sym, ap, ◌∙◌}
 use mathlib.Core.Bool.{Bool, true, false, not, ◌&&◌, ◌||◌}
-use mathlib.Core.Option.{some}
+use Rattle.std.specs.declared.option.Option.TheVariants.{Some}
 use mathlib.Core.List.{List, [], ◌∷◌, ◌++◌}
 use native.Mathlib.Omega.{arith}
 use native.Mathlib.Numerals.{add-one}
@@ -36,15 +36,15 @@ second_lower b e = or_other (eqb (suc b) 0) (lower (suc b)) e (ne_eqb (suc b) 0 
 
 -- clauses
 module _ (c : Bool) (m : ℕ) where
-  pub lettered_one : (a : ℕ) → upper a ≡ true → lettered c m (a ∷ []) ≡ some (sym_of c m a 0)
+  pub lettered_one : (a : ℕ) → upper a ≡ true → lettered c m (a ∷ []) ≡ Some (sym_of c m a 0)
   unfolding lettered
   lettered_one a e = rw (e, lettered)
 
-  pub lettered_two : (a b : ℕ) → upper a ≡ true → lower b ≡ true → lettered c m (a ∷ b ∷ []) ≡ some (sym_of c m a b)
+  pub lettered_two : (a b : ℕ) → upper a ≡ true → lower b ≡ true → lettered c m (a ∷ b ∷ []) ≡ Some (sym_of c m a b)
   unfolding lettered
   lettered_two a b e f = rw (e, f, lettered)
 
-  pub lettered_back : (a b : ℕ) → upper a ≡ true → (eqb b 0 || lower b) ≡ true → lettered c m (letters (sym_of c m a b)) ≡ some (sym_of c m a b)
+  pub lettered_back : (a b : ℕ) → upper a ≡ true → (eqb b 0 || lower b) ≡ true → lettered c m (letters (sym_of c m a b)) ≡ Some (sym_of c m a b)
   lettered_back a zero e f = lettered_one a e
   lettered_back a (suc b) e f = lettered_two a (suc b) e (second_lower b f)
 
@@ -57,18 +57,18 @@ unfolding symbol
 symbol_caret w = refl
 
 -- digits, then a letter
-pub massed_at : (v : Bytes) (a : ℕ) (w : Bytes) (m : ℕ) → all digit v ≡ true → digit a ≡ false → digits_of 3 v ≡ some m → massed (v ++ (a ∷ w)) ≡ lettered true m (a ∷ w)
+pub massed_at : (v : Bytes) (a : ℕ) (w : Bytes) (m : ℕ) → all digit v ≡ true → digit a ≡ false → digits_of 3 v ≡ Some m → massed (v ++ (a ∷ w)) ≡ lettered true m (a ∷ w)
 unfolding massed
 massed_at v a w m h e q = rw (span_upto digit v a w h e, take-append_seam v (a ∷ w), drop-append_seam v (a ∷ w), q)
 
-symbol_parts : (c : Bool) (m a b : ℕ) → upper a ≡ true → (eqb b 0 || lower b) ≡ true → (c || eqb m 0) ≡ true → m < 1000 → symbol (print_mass c m ++ letters (sym_of c m a b)) ≡ some (sym_of c m a b)
+symbol_parts : (c : Bool) (m a b : ℕ) → upper a ≡ true → (eqb b 0 || lower b) ≡ true → (c || eqb m 0) ≡ true → m < 1000 → symbol (print_mass c m ++ letters (sym_of c m a b)) ≡ Some (sym_of c m a b)
 symbol_parts false m a b u l z h =
     let n : m ≡ 0 = eqb-true m 0 z in
-    symbol_plain a _ (ne_eqb a 94 (λ e. omega (arith, (upper_bounds a u).1))) ∙ lettered_back false 0 a b u l ∙ ap (λ (k : ℕ). some (sym_of false k a b)) (sym n)
+    symbol_plain a _ (ne_eqb a 94 (λ e. omega (arith, (upper_bounds a u).1))) ∙ lettered_back false 0 a b u l ∙ ap (λ (k : ℕ). Some (sym_of false k a b)) (sym n)
 symbol_parts true m a b u l z h =
     symbol_caret (digits m ++ letters (sym_of true m a b)) ∙ massed_at (digits m) a _ m (printed_number m).digits (upper_digit a u) (digits_of_back 2 m (omega arith) h) ∙ lettered_back true m a b u l
 
-pub symbol_back : (x : Sym) → Printable x → symbol (print_sym x) ≡ some x
+pub symbol_back : (x : Sym) → Printable x → symbol (print_sym x) ≡ Some x
 unfolding print_sym
 symbol_back x p = symbol_parts x.caret x.mass x.first x.second p.letter p.second p.massed p.mass
 

@@ -122,15 +122,15 @@ pub total_some : (i : Isotope) (es : List Entry) → all (λ (e : Entry). ltb 0 
 total_some i [] h k = torn (any (λ (e : Entry). same_isotope i e.kind) []) k (any_nil (λ (e : Entry). same_isotope i e.kind))
 total_some i (e ∷ es) h k = go (same_isotope i e.kind) refl (total_some i es)
   where
-    some : Entry → Bool
-    some f = ltb 0 f.count
+    Some : Entry → Bool
+    Some f = ltb 0 f.count
 
     here : Entry → Bool
     here f = same_isotope i f.kind
 
-    go : (t : Bool) → same_isotope i e.kind ≡ t → (all some es ≡ true → any here es ≡ true → 0 < total i es) → 0 < total i (e ∷ es)
-    go true q ih = let n : 0 < e.count = ltb-true 0 e.count (all_parts some e es h).0 in omega (arith, total_hit i e es q)
-    go false q ih = omega (arith, total_miss i e es q, ih (all_parts some e es h).1 (sym (any_miss here e es q) ∙ k))
+    go : (t : Bool) → same_isotope i e.kind ≡ t → (all Some es ≡ true → any here es ≡ true → 0 < total i es) → 0 < total i (e ∷ es)
+    go true q ih = let n : 0 < e.count = ltb-true 0 e.count (all_parts Some e es h).0 in omega (arith, total_hit i e es q)
+    go false q ih = omega (arith, total_miss i e es q, ih (all_parts Some e es h).1 (sym (any_miss here e es q) ∙ k))
 
 -- AGREEING
 agree_at : (i : Isotope) (ks : List Isotope) (es fs : List Entry) → all (λ j. eqb (total j es) (total j fs)) ks ≡ true → any (same_isotope i) ks ≡ true → total i es ≡ total i fs
@@ -171,9 +171,9 @@ module _ (count : Isotope → ℕ) where
 
       go : (t : Bool) → same_isotope i k ≡ t → total i (each ks) ≡ share (any (same_isotope i) ks) (count i) → total i (each (k ∷ ks)) ≡ share (any (same_isotope i) (k ∷ ks)) (count i)
       go true q ih =
-          let none : any (same_isotope i) ks ≡ false = any_same (same_isotope i) (same_isotope k) (λ j. isotope_trans i k j q) ks ∙ (pairs_parts same_isotope k ks d).0 in
+          let None : any (same_isotope i) ks ≡ false = any_same (same_isotope i) (same_isotope k) (λ j. isotope_trans i k j q) ks ∙ (pairs_parts same_isotope k ks d).0 in
           let same : count k ≡ count i = ap count (sym (isotope_is i k q)) in
-          let zero' : total i (each ks) ≡ 0 = ih ∙ ap (λ (t : Bool). share t (count i)) none in
+          let zero' : total i (each ks) ≡ 0 = ih ∙ ap (λ (t : Bool). share t (count i)) None in
           let one : share (any (same_isotope i) (k ∷ ks)) (count i) ≡ count i = ap (λ (t : Bool). share t (count i)) (any_hit (same_isotope i) k ks q) in
           total_hit i (entry k (count k)) (each ks) q ∙ omega arith
       go false q ih = total_miss i (entry k (count k)) (each ks) q ∙ ih ∙ sym (ap (λ (t : Bool). share t (count i)) (any_miss (same_isotope i) k ks q))

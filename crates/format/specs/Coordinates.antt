@@ -1,7 +1,8 @@
 -- Coordinates in Angstrom: document 02, L2, and the paper's MAX_XYZ, XYZ_FACTOR and XYZ. The rows and the factor are whole numbers; a coordinate is one rounded
 -- division of two whole numbers that are exact as floats. Stricter than the paper: no exponent, at most 9 digits in a factor, 6 in a row. Assumes nothing.
 use Rattle.std.specs.Prelude.{ℕ, suc, ◌+◌, ◌-◌, ◌*◌, ◌^◌, ◌≤◌, ◌≡◌, Bool, true, false, not, List, [], ◌∷◌, ◌++◌, length, take, drop, ℤ, pos, negsuc, nat_abs, ◌*ℤ◌, eqb, ltb, Float}
-use Rattle.std.proofs.Math.Option.{Option, some}
+use Rattle.std.specs.declared.option.Option.{Option}
+use Rattle.std.specs.declared.option.Option.TheVariants.{Some}
 use Rattle.std.specs.Float.{nan, inf, fin, binary64}
 use Rattle.std.specs.Float.Ieee.{up, down, div, of_int}
 use Rattle.lists.specs.Lists.{any, span, flat, count_up}
@@ -18,7 +19,7 @@ pub record XyzRow : Type 0 where
 unfoldable pub xyz_shape : List Bytes → Option XyzRow
 xyz_shape fs =
     number (field 0 fs) and_then λ a. signed (field 1 fs) and_then λ x. signed (field 2 fs) and_then λ y. signed (field 3 fs) and_then λ z.
-    optional nothing_more (drop 4 fs) and_then λ n. some (record { atom = a; x = x; y = y; z = z })
+    optional nothing_more (drop 4 fs) and_then λ n. Some (record { atom = a; x = x; y = y; z = z })
 
 abbrev pub values : XyzRow → List ℤ
 values r = r.x ∷ r.y ∷ r.z ∷ []
@@ -35,7 +36,7 @@ abbrev pub unpointed : ℕ → Bool
 unpointed b = not (eqb b 46)
 
 unfoldable pub factor_shape : Bytes → Option Factor
-factor_shape w = digits_of 9 (take (span unpointed w) w ++ drop (suc (span unpointed w)) w) and_then λ n. some (factor n (length w - suc (span unpointed w)))
+factor_shape w = digits_of 9 (take (span unpointed w) w ++ drop (suc (span unpointed w)) w) and_then λ n. Some (factor n (length w - suc (span unpointed w)))
 
 -- What a block says of its geometry: MAX_XYZ, the factor, the rows of XYZ, latest first; a block that says nothing has 0, a factor of 0 and no rows
 pub record Geometry : Type 0 where

@@ -1,7 +1,8 @@
 -- The shape of MOLFORM's value, byte by byte: document 01, "Rows", MOLFORM; the paper's section on MOLFORM. A machine tells each entry where it ends; what
 -- brings it into `dead` has no shape and is refused 9. Stricter than the paper: a count or a mass touches its symbol. Assumes nothing.
 use Rattle.std.specs.Prelude.{ℕ, suc, ◌+◌, ◌-◌, ◌*◌, Bool, true, false, ◌&&◌, List, [], ◌∷◌, ◌++◌, eqb, ltb}
-use Rattle.std.proofs.Math.Option.{Option, none, some}
+use Rattle.std.specs.declared.option.Option.{Option}
+use Rattle.std.specs.declared.option.Option.TheVariants.{None, Some}
 use Rattle.format.specs.Bytes.{Bytes, gap}
 use Rattle.format.specs.Rows.{Sym, sym_of, digit, upper, lower}
 
@@ -70,19 +71,19 @@ fstep (in_count x n v) b = elim (digit b) [ true ↦ more (ltb n 6) (in_count x 
 
 -- the end of the value: an entry that runs ends there; an empty fragment, a bare `^` or `/` has no shape
 abbrev pub finish : FState → Option (List Counted)
-finish dead = none
-finish (between true) = some []
-finish (between false) = none
-finish at_caret = none
-finish (in_mass n v) = none
-finish (at_one c m a) = some (counted (sym_of c m a 0) 1 ∷ [])
-finish (at_two x) = some (counted x 1 ∷ [])
-finish (at_slash x) = none
-finish (in_count x n v) = some (counted x v ∷ [])
+finish dead = None
+finish (between true) = Some []
+finish (between false) = None
+finish at_caret = None
+finish (in_mass n v) = None
+finish (at_one c m a) = Some (counted (sym_of c m a 0) 1 ∷ [])
+finish (at_two x) = Some (counted x 1 ∷ [])
+finish (at_slash x) = None
+finish (in_count x n v) = Some (counted x v ∷ [])
 
 abbrev pub join : List Counted → Option (List Counted) → Option (List Counted)
-join es none = none
-join es (some fs) = some (es ++ fs)
+join es None = None
+join es (Some fs) = Some (es ++ fs)
 
 unfoldable pub frun : FState → Bytes → Option (List Counted)
 frun q [] = finish q

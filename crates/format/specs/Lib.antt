@@ -10,3 +10,4 @@ pub mod Reading
 pub mod Table
 pub mod Writing
 pub mod Walking
+pub mod Refusals

@@ -1,7 +1,8 @@
 -- Reading one block: document 01, "Lines and labels", "Rows", "Refusal numbers". "The earliest line that breaks a rule decides, and on it the lowest number":
 -- the lines are judged in turn, and on each the tests stand in the order of their numbers. Assumes nothing.
 use Rattle.std.specs.Prelude.{ℕ, suc, ◌+◌, ◌-◌, Bool, true, false, ◌&&◌, ◌||◌, not, List, [], ◌∷◌, ◌++◌, map, length, get_or, set, drop, eqb, ltb, leb}
-use Rattle.std.proofs.Math.Option.{Option, none, some}
+use Rattle.std.specs.declared.option.Option.{Option}
+use Rattle.std.specs.declared.option.Option.TheVariants.{None, Some}
 use Rattle.lists.specs.Lists.{is_nil, all, any, pairs}
 use Rattle.lists.specs.Order.{sort}
 use Rattle.format.specs.Bytes.{Bytes, bytes, within, same, gap, allowed, cut, fields, strip, lead, trim}
@@ -84,8 +85,8 @@ atom_count st = length st.body.atoms
 
 -- ATOMLIST: "Numbers run 1, 2, 3 and on."
 unfoldable pub atom_turn : (k : ℕ) → State → Option AtomRow → Turn
-atom_turn k st none = Stop 9
-atom_turn k st (some r) =
+atom_turn k st None = Stop 9
+atom_turn k st (Some r) =
     if not (mass_ok r.symbol && leb r.hydrogens 15) stop 10
     else if not (eqb r.number (suc (atom_count st))) stop 11
     else if unknown k r.symbol stop 12
@@ -109,8 +110,8 @@ join_turn l st rs r =
 
 -- "or an atom with itself, is a clash"; in CHARGE and RADICAL "an atom stands once"
 unfoldable pub row_turn : ListOf → State → Option Row → Turn
-row_turn l st none = Stop 9
-row_turn l st (some r) =
+row_turn l st None = Stop 9
+row_turn l st (Some r) =
     if not (ranged l r.value) stop 10
     else if not (all (within 1 (atom_count st)) r.atoms) stop 11
     else if pairs eqb r.atoms stop 13
@@ -118,8 +119,8 @@ row_turn l st (some r) =
 
 -- MOLFORM: "a symbol and an optional count 1 to 9,999"
 unfoldable pub formula_turn : (k : ℕ) → State → Option (List Counted) → Turn
-formula_turn k st none = Stop 9
-formula_turn k st (some cs) =
+formula_turn k st None = Stop 9
+formula_turn k st (Some cs) =
     if not (all (λ c. mass_ok c.symbol && within 1 9999 c.count) cs) stop 10
     else if any (λ c. unknown k c.symbol) cs stop 12
     else Go (with_formula st (map (λ c. entry (isotope k c.symbol) c.count) cs))
@@ -130,8 +131,8 @@ version_turn st fs = if not (same (field 0 fs) (bytes "3.7") && is_nil (drop 1 f
 
 -- "BLOCK_ID: one unsigned number, 1 to 999,999."
 abbrev pub id_value : State → (alone : Bool) → Option ℕ → Turn
-id_value st alone none = Stop 9
-id_value st alone (some n) = if not alone stop 9 else if eqb n 0 stop 10 else Go (with_body st (with_id n st.body))
+id_value st alone None = Stop 9
+id_value st alone (Some n) = if not alone stop 9 else if eqb n 0 stop 10 else Go (with_body st (with_id n st.body))
 
 unfoldable pub id_turn : State → List Bytes → Turn
 id_turn st fs = id_value st (is_nil (drop 1 fs)) (number (field 0 fs))
@@ -143,17 +144,17 @@ only_field (f ∷ []) = f
 only_field (f ∷ g ∷ fs) = []
 
 unfoldable pub greatest_turn : State → Option ℕ → Turn
-greatest_turn st none = Stop 9
-greatest_turn st (some n) = Go (with_geometry st (geometry n st.geometry.scale st.geometry.rows))
+greatest_turn st None = Stop 9
+greatest_turn st (Some n) = Go (with_geometry st (geometry n st.geometry.scale st.geometry.rows))
 
 unfoldable pub factor_turn : State → Option Factor → Turn
-factor_turn st none = Stop 9
-factor_turn st (some f) = if eqb f.digits 0 stop 10 else Go (with_geometry st (geometry st.geometry.greatest f st.geometry.rows))
+factor_turn st None = Stop 9
+factor_turn st (Some f) = if eqb f.digits 0 stop 10 else Go (with_geometry st (geometry st.geometry.greatest f st.geometry.rows))
 
 -- XYZ: "atoms ascending, not all needed", so there are never more rows than atoms
 unfoldable pub xyz_turn : State → Option XyzRow → Turn
-xyz_turn st none = Stop 9
-xyz_turn st (some r) =
+xyz_turn st None = Stop 9
+xyz_turn st (Some r) =
     if not (within 1 (atom_count st) r.atom) stop 11
     else if any (λ q. leb r.atom q.atom) st.geometry.rows stop 13
     else Go (with_geometry st (geometry st.geometry.greatest st.geometry.scale (r ∷ st.geometry.rows)))

@@ -1,6 +1,7 @@
 -- Walking a transfer file, the name to show, the check: document 01, "Walking a transfer file". Assumes nothing.
 use Rattle.std.specs.Prelude.{ℕ, ◌+◌, ◌-◌, ◌*◌, Bool, true, false, List, [], ◌∷◌, ◌++◌, map, length, take, drop, ltb}
-use Rattle.std.proofs.Math.Option.{Option, none, some}
+use Rattle.std.specs.declared.option.Option.{Option}
+use Rattle.std.specs.declared.option.Option.TheVariants.{None, Some}
 use Rattle.format.specs.Bytes.{Bytes, cut, trim, is_label}
 use Rattle.format.specs.Labels.{Line, Plain, Unparted, Labelled, line_of, title_line, end_line}
 use Rattle.format.specs.Table.{spans_of, text_at, ReadResult, read_result, ample}
@@ -119,7 +120,7 @@ answered k file ps = map (λ p. record { of = p; told = told_of k p.kind (bytes_
 
 -- none: the file is too long, and 31 is its one answer
 unfoldable pub answers : (k : ℕ) → (file : Bytes) → Option (List Answer)
-answers k file = elim (ltb 16777216 (length file)) [ true ↦ none | false ↦ some (answered k file (pieces file)) ]
+answers k file = elim (ltb 16777216 (length file)) [ true ↦ None | false ↦ Some (answered k file (pieces file)) ]
 
 -- "The name to show is a part of the block, its title, or the caller's stand-in bytes where the title is empty or the first line is no TITLE line."
 unfoldable pub until_label : List Bytes → Bytes

@@ -2,6 +2,8 @@
 // give each record's place. What the numbers mean is in specs/; no parsing here.
 #![tactic(auto)]
 
+pub mod refusal; // refusal.rt: why something is refused
+
 ghost use Rattle.std.specs.Prelude.{◌≡◌};
 ghost use Rattle.format.specs.Labels.{Bonds, Charges, Radicals, Centres, Pairs};
 ghost use Rattle.format.specs.Table.{text_place, atom_place, row_place};

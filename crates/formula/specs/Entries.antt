@@ -1,22 +1,13 @@
 -- What a quick entry's answer promises: document 01, "Rows", MOLFORM. Where it answers an entry, the formula's machine, between entries at `at`, tells that entry and
--- stands between entries at `next`. Where it answers Not it promises nothing: the machine judges what stands there. Assumes nothing.
+-- stands between entries at `next`. Where it answers None it promises nothing: the machine judges what stands there. Assumes nothing.
 use Rattle.std.specs.Prelude.{ℕ, ◌-◌, ◌≤◌, ◌<◌, ◌≡◌, Bool, true, [], ◌∷◌, length, drop}
 use Rattle.format.specs.Bytes.{Bytes, gap}
 use Rattle.format.specs.Rows.{Sym, digit}
 use Rattle.format.specs.Formula.{counted, FState, between, in_count, still, tells, fstep, join, frun}
 use Rattle.symbols.specs.ShownSymbols.{sym_of_mark}
 use Rattle.symbols.specs.declared.Mark.{Mark}
-use Rattle.formula.specs.declared.entry.LettersAt.{LettersAt}
-use Rattle.formula.specs.declared.entry.LettersAt.TheVariants as L
-use Rattle.formula.specs.declared.entry.CountAt.{CountAt}
-use Rattle.formula.specs.declared.entry.CountAt.TheVariants as C
-use Rattle.formula.specs.declared.entry.QuickEntry.{QuickEntry}
-use Rattle.formula.specs.declared.entry.QuickEntry.TheVariants as Q
-
--- a place behind the gaps from `at` on
-pub record PastGaps (s : Bytes) (at to : ℕ) : Type 0 where
-  pub low : at ≤ to
-  pub is : (begun : Bool) → frun (between begun) (drop at s) ≡ frun (between begun) (drop to s)
+use Rattle.formula.specs.declared.entry.Entry.{Entry}
+use Rattle.formula.specs.Machine.{entry_shown}
 
 -- a state behind a symbol: a gap ends the entry, a digit starts its count
 pub record Opens (q : FState) (x : Sym) : Type 0 where
@@ -30,26 +21,14 @@ pub record LettersAre (s : Bytes) (at : ℕ) (mark : Mark) (to : ℕ) : Type 0 w
   pub opens : Opens behind (sym_of_mark mark)
   pub is : (begun : Bool) → frun (between begun) (drop at s) ≡ frun behind (drop to s)
 
-abbrev pub ShowsLetters : Bytes → (at : ℕ) → LettersAt → Type 0
-ShowsLetters s at (L.Letters mark to) = LettersAre s at mark to
-ShowsLetters s at L.Not = Unit {0}
-
 -- behind a symbol a count stands at `at`, or none, and a gap before `next`
 pub record CountIs (s : Bytes) (at n next : ℕ) : Type 0 where
   pub low : at < next
   pub high : next ≤ length s
   pub is : (q : FState) (x : Sym) → Opens q x → frun q (drop at s) ≡ join (counted x n ∷ []) (frun (between true) (drop next s))
 
-abbrev pub ShowsCount : Bytes → (at : ℕ) → CountAt → Type 0
-ShowsCount s at (C.Count n next) = CountIs s at n next
-ShowsCount s at C.Not = Unit {0}
-
 -- an entry stands at `at`, a gap behind it, and what follows starts at `next`
-pub record EntryIs (s : Bytes) (at : ℕ) (mark : Mark) (n next : ℕ) : Type 0 where
+pub record EntryIs (s : Bytes) (at : ℕ) (e : Entry) (next : ℕ) : Type 0 where
   pub low : at < next
   pub high : next ≤ length s
-  pub is : (begun : Bool) → frun (between begun) (drop at s) ≡ join (counted (sym_of_mark mark) n ∷ []) (frun (between true) (drop next s))
-
-abbrev pub ShowsEntry : Bytes → (at : ℕ) → QuickEntry → Type 0
-ShowsEntry s at (Q.Entry mark n next) = EntryIs s at mark n next
-ShowsEntry s at Q.Not = Unit {0}
+  pub is : (begun : Bool) → frun (between begun) (drop at s) ≡ join (entry_shown e ∷ []) (frun (between true) (drop next s))

@@ -1,123 +1,71 @@
-// Quick entries: entries of MOLFORM as programs write them, a symbol without `^`, its count, and a gap (a blank or a line feed) behind them, read in one pass with no
-// machine's state: document 01, "Rows", MOLFORM. What is not such an entry is answered Not and refused nowhere here: the machine judges it.
-ghost use Rattle.formula.specs.Entries.{PastGaps, ShowsLetters, ShowsCount, ShowsEntry};
+// An entry of MOLFORM, and quick entries: entries as programs write them, a symbol without `^`, its count, and a gap (a blank or a line feed) behind them, read in
+// one pass with no machine's state: document 01, "Rows", MOLFORM. What is no such entry is answered None and refused nowhere here: the machine judges it.
+ghost use Rattle.std.specs.Prelude.{IfSome};
+ghost use Rattle.formula.specs.Entries.{LettersAre, CountIs, EntryIs};
 
-use alphabet::{is_digit, is_gap, is_lower, is_upper};
+use alphabet::kind::{Gaps, run_end};
+use alphabet::{digit, is_gap, is_lower, is_upper};
 use symbols::Mark;
 
-// A symbol and the place behind it.
-#[derive(Clone, Copy)]
-pub enum LettersAt {
-    Letters(Mark, usize),
-    Not,
+// An entry: "a symbol and an optional count", 1 where there is none.
+#[derive(Clone, Copy, Debug, PartialEq, Eq)]
+pub struct Entry {
+    pub mark: Mark,
+    pub count: u32,
 }
 
-// A count and the place behind its gap.
-#[derive(Clone, Copy)]
-pub enum CountAt {
-    Count(u32, usize),
-    Not,
+// A quick entry, and the place behind its gap.
+#[derive(Clone, Copy, Debug, PartialEq, Eq)]
+pub struct QuickEntry {
+    pub entry: Entry,
+    pub next: usize,
 }
 
-// An entry's symbol and count, and the place behind its gap; or no quick entry.
-#[derive(Clone, Copy)]
-pub enum QuickEntry {
-    Entry(Mark, u32, usize),
-    Not,
-}
+// The digits of a quick entry's count, at most.
+const COUNT_DIGITS: usize = 4;
 
-// The first place from `at` on where no gap stands.
-fn past_gaps(value: &[u8], at: usize) -> usize
-    ensures { PastGaps value.now at result }
+// A symbol that does not end the value, and the place behind it: "an upper-case letter and at most one lower-case letter".
+fn letters_at(value: &[u8], at: usize) -> Option<(Mark, usize)>
+    ensures { IfSome result (λ p. LettersAre value.now at p.0 p.1) }
 {
-    let mut i = at;
-    while i < value.len() {
-        if !is_gap(value[i]) {
-            return i;
-        }
-        i += 1;
-    }
-    i
-}
-
-// A symbol that does not end the value: "an upper-case letter and at most one lower-case letter".
-fn letters_at(value: &[u8], at: usize) -> LettersAt
-    ensures { ShowsLetters value.now at result }
-{
-    let size = value.len();
-    if size < 2 {
-        return LettersAt::Not;
-    }
-    if size - 2 < at {
-        return LettersAt::Not;
-    }
-    let first = value[at];
+    let first = *value.get(at)?;
+    let to = at + 1;
+    let second = *value.get(to)?;
     if !is_upper(first) {
-        return LettersAt::Not;
+        return None;
     }
-    let second = value[at + 1];
     if is_lower(second) {
-        let mark = Mark {
-            caret: false,
-            mass: 0,
-            first,
-            second,
-        };
-        return LettersAt::Letters(mark, at + 2);
+        return Some((Mark::plain(first, second), to + 1));
     }
-    let mark = Mark {
-        caret: false,
-        mass: 0,
-        first,
-        second: 0,
-    };
-    LettersAt::Letters(mark, at + 1)
+    Some((Mark::plain(first, 0), to))
 }
 
-// Behind a symbol: "an optional count 1 to 9,999", here of at most 4 digits, and a gap. 1 where there is none.
-fn count_at(value: &[u8], at: usize) -> CountAt
-    ensures { ShowsCount value.now at result }
+// Behind a symbol: "an optional count 1 to 9,999", here of at most 4 digits, and a gap; 1 where there is none. The count, and the place behind the gap.
+fn count_at(value: &[u8], at: usize) -> Option<(u32, usize)>
+    ensures { IfSome result (λ p. CountIs value.now at p.0 p.1) }
 {
-    let size = value.len();
-    if size <= at {
-        return CountAt::Not;
-    }
-    let digit = value[at];
-    if !is_digit(digit) {
-        if is_gap(digit) {
-            return CountAt::Count(1, at + 1);
-        }
-        return CountAt::Not;
-    }
-    let mut count = (digit - 48) as u32;
-    let mut i = at + 1;
-    while i < size {
+    let mut count = 0;
+    for i in at..value.len() {
         let byte = value[i];
-        if !is_digit(byte) {
-            if is_gap(byte) {
-                return CountAt::Count(count, i + 1);
-            }
-            return CountAt::Not;
+        if is_gap(byte) {
+            let told = if i == at { 1 } else { count };
+            return Some((told, i + 1));
         }
-        if 3 < i - at {
-            return CountAt::Not;
+        if i - at == COUNT_DIGITS {
+            return None;
         }
-        count = count * 10 + (byte - 48) as u32;
-        i += 1;
+        count = count * 10 + digit(byte)?;
     }
-    CountAt::Not
+    None
 }
 
 // The entry at a place between entries, the gaps before it passed over: "entries of a symbol and an optional count", here with a gap behind it.
-pub fn quick_entry(value: &[u8], at: usize) -> QuickEntry
-    ensures { ShowsEntry value.now at result }
+pub fn quick_entry(value: &[u8], at: usize) -> Option<QuickEntry>
+    ensures { IfSome result (λ q. EntryIs value.now at q.entry q.next) }
 {
-    let from = past_gaps(value, at);
-    let LettersAt::Letters(mark, to) = letters_at(value, from) else {
-        return QuickEntry::Not;
-    };
-    let CountAt::Count(count, next) = count_at(value, to) else {
-        return QuickEntry::Not;
-    };
-    QuickEntry::Entry(mark, count, next)
+    let from = run_end::<Gaps>(value, at);
+    let (mark, to) = letters_at(value, from)?;
+    let (count, next) = count_at(value, to)?;
+    let entry = Entry { mark, count };
+    Some(QuickEntry { entry, next })
 }

@@ -4,7 +4,8 @@ use Prim.Native.Nat.{ℕ, zero, suc, ◌+◌, ◌-◌, ◌*◌, ◌≤◌, ◌<�
 use mathlib.Core.Path.{◌≡◌, refl, sym, ap, ◌∙◌}
 use mathlib.Core.Bool.{Bool, true, false, ◌&&◌, ◌||◌, not}
 use mathlib.Core.Logic.{◌⊎◌, inl, inr}
-use mathlib.Core.Option.{Option, none, some}
+use Rattle.std.specs.declared.option.Option.{Option}
+use Rattle.std.specs.declared.option.Option.TheVariants.{None, Some}
 use mathlib.Core.List.{List, [], ◌∷◌, ◌++◌, map}
 use native.Mathlib.Omega.{arith}
 use lib.ListN.{length, take, drop, length-take}
@@ -28,29 +29,29 @@ use Rattle.gather.specs.Progress.{entry_fine}
 abbrev pub plain : Sym → Bool
 plain x = x.caret || eqb x.mass 0
 
-picked_plain : (t : Bool) (y x : Sym) → plain y ≡ true → elim t [ true ↦ some y | false ↦ none ] ≡ some x → plain x ≡ true
+picked_plain : (t : Bool) (y x : Sym) → plain y ≡ true → elim t [ true ↦ Some y | false ↦ None ] ≡ Some x → plain x ≡ true
 picked_plain true y x h e = ap (λ (z : Sym). z.caret || eqb z.mass 0) (sym (some_same y x e)) ∙ h
 picked_plain false y x h e = none_some x e
 
-lettered_plain : (c : Bool) (m : ℕ) (w : Bytes) (x : Sym) → (c || eqb m 0) ≡ true → lettered c m w ≡ some x → plain x ≡ true
+lettered_plain : (c : Bool) (m : ℕ) (w : Bytes) (x : Sym) → (c || eqb m 0) ≡ true → lettered c m w ≡ Some x → plain x ≡ true
 unfolding lettered
 lettered_plain c m [] x h e = none_some x e
 lettered_plain c m (a ∷ []) x h e = picked_plain (upper a) (sym_of c m a 0) x h e
 lettered_plain c m (a ∷ b ∷ []) x h e = picked_plain (upper a && lower b) (sym_of c m a b) x h e
 lettered_plain c m (a ∷ b ∷ d ∷ w) x h e = none_some x e
 
-massed_plain : (w : Bytes) (x : Sym) → massed w ≡ some x → plain x ≡ true
+massed_plain : (w : Bytes) (x : Sym) → massed w ≡ Some x → plain x ≡ true
 unfolding massed
 massed_plain w x e =
     let f = through (digits_of 3 (take (span digit w) w)) (λ m. lettered true m (drop (span digit w) w)) x e in
     lettered_plain true f.mid (drop (span digit w) w) x refl f.on
 
-pub symbol_plain : (w : Bytes) (x : Sym) → symbol w ≡ some x → plain x ≡ true
+pub symbol_plain : (w : Bytes) (x : Sym) → symbol w ≡ Some x → plain x ≡ true
 unfolding symbol
 symbol_plain [] x e = none_some x e
 symbol_plain (b ∷ w) x e = go (eqb b 94) e
   where
-    go : (t : Bool) → elim t [ true ↦ massed w | false ↦ lettered false 0 (b ∷ w) ] ≡ some x → plain x ≡ true
+    go : (t : Bool) → elim t [ true ↦ massed w | false ↦ lettered false 0 (b ∷ w) ] ≡ Some x → plain x ≡ true
     go true e = massed_plain w x e
     go false e = lettered_plain false 0 (b ∷ w) x refl e
 
@@ -104,16 +105,16 @@ pub record AtomAdded (k : ℕ) (listed next : List Atom) : Type 0 where
   pub fine : atom_ok k new ≡ true
   pub room : length listed < 256
 
-shape_plain : (fs : List Bytes) (r : AtomRow) → atom_shape fs ≡ some r → plain r.symbol ≡ true
+shape_plain : (fs : List Bytes) (r : AtomRow) → atom_shape fs ≡ Some r → plain r.symbol ≡ true
 unfolding atom_shape
 shape_plain fs r e =
-    let a = through (number (field 0 fs)) (λ n. symbol (field 1 fs) and_then λ x. optional number (drop 2 fs) and_then λ h. some (record { number = n; symbol = x; hydrogens = h })) r e in
-    let b = through (symbol (field 1 fs)) (λ x. optional number (drop 2 fs) and_then λ h. some (record { number = a.mid; symbol = x; hydrogens = h })) r a.on in
-    let c = through (optional number (drop 2 fs)) (λ h. some (record { number = a.mid; symbol = b.mid; hydrogens = h })) r b.on in
+    let a = through (number (field 0 fs)) (λ n. symbol (field 1 fs) and_then λ x. optional number (drop 2 fs) and_then λ h. Some (record { number = n; symbol = x; hydrogens = h })) r e in
+    let b = through (symbol (field 1 fs)) (λ x. optional number (drop 2 fs) and_then λ h. Some (record { number = a.mid; symbol = x; hydrogens = h })) r a.on in
+    let c = through (optional number (drop 2 fs)) (λ h. Some (record { number = a.mid; symbol = b.mid; hydrogens = h })) r b.on in
     ap (λ (z : AtomRow). z.symbol.caret || eqb z.symbol.mass 0) (sym (some_same (record { number = a.mid; symbol = b.mid; hydrogens = c.mid }) r c.on)) ∙ symbol_plain (field 1 fs) b.mid b.is
 
 module _ (k : ℕ) (h : 1 ≤ k) (listed next : List Atom) where
-  atom_taken : (r : AtomRow) → plain r.symbol ≡ true → atom_after k listed (some r) ≡ kept next → AtomAdded k listed next
+  atom_taken : (r : AtomRow) → plain r.symbol ≡ true → atom_after k listed (Some r) ≡ kept next → AtomAdded k listed next
   unfolding atom_after atom_ok
   atom_taken r p e =
       let x : Sym = r.symbol in
@@ -138,8 +139,8 @@ module _ (k : ℕ) (h : 1 ≤ k) (listed next : List Atom) where
   atom_kept (f ∷ fs) e = go (atom_shape (f ∷ fs)) refl e
     where
       go : (o : Option AtomRow) → atom_shape (f ∷ fs) ≡ o → atom_after k listed o ≡ kept next → (next ≡ listed) ⊎ AtomAdded k listed next
-      go none p q = refused_kept 9 next q
-      go (some r) p q = inr (atom_taken r (shape_plain (f ∷ fs) r p) q)
+      go None p q = refused_kept 9 next q
+      go (Some r) p q = inr (atom_taken r (shape_plain (f ∷ fs) r p) q)
 
 -- A FORMULA'S SYMBOLS
 abbrev plain_one : Counted → Bool
@@ -199,7 +200,7 @@ step_plain (at_two x) b h = count_plain x b (leave (counted x 1) b) h (leave_pla
 step_plain (at_slash x) b h = chosen (digit b) _ _ (stays (in_count x 1 (b - 48)) h) (stays dead refl)
 step_plain (in_count x n v) b h = chosen (digit b) _ _ (more_plain (ltb n 6) (in_count x (suc n) (v * 10 + (b - 48))) h) (leave_plain (counted x v) b h)
 
-finish_plain : (q : FState) (cs : List Counted) → plain_state q ≡ true → finish q ≡ some cs → all plain_one cs ≡ true
+finish_plain : (q : FState) (cs : List Counted) → plain_state q ≡ true → finish q ≡ Some cs → all plain_one cs ≡ true
 finish_plain dead cs h e = none_some cs e
 finish_plain (between true) cs h e = ap (all plain_one) (sym (some_same [] cs e)) ∙ all_nil plain_one
 finish_plain (between false) cs h e = none_some cs e
@@ -210,11 +211,11 @@ finish_plain (at_two x) cs h e = ap (all plain_one) (sym (some_same (counted x 1
 finish_plain (at_slash x) cs h e = none_some cs e
 finish_plain (in_count x n v) cs h e = ap (all plain_one) (sym (some_same (counted x v ∷ []) cs e)) ∙ all_both plain_one (counted x v) [] h (all_nil plain_one)
 
-join_plain : (es : List Counted) (o : Option (List Counted)) (cs : List Counted) → join es o ≡ some cs → all plain_one es ≡ true → ((fs : List Counted) → o ≡ some fs → all plain_one fs ≡ true) → all plain_one cs ≡ true
-join_plain es none cs e h f = none_some cs e
-join_plain es (some fs) cs e h f = ap (all plain_one) (sym (some_same (es ++ fs) cs e)) ∙ all_append_both plain_one es fs h (f fs refl)
+join_plain : (es : List Counted) (o : Option (List Counted)) (cs : List Counted) → join es o ≡ Some cs → all plain_one es ≡ true → ((fs : List Counted) → o ≡ Some fs → all plain_one fs ≡ true) → all plain_one cs ≡ true
+join_plain es None cs e h f = none_some cs e
+join_plain es (Some fs) cs e h f = ap (all plain_one) (sym (some_same (es ++ fs) cs e)) ∙ all_append_both plain_one es fs h (f fs refl)
 
-run_plain : (q : FState) (s : Bytes) (cs : List Counted) → plain_state q ≡ true → frun q s ≡ some cs → all plain_one cs ≡ true
+run_plain : (q : FState) (s : Bytes) (cs : List Counted) → plain_state q ≡ true → frun q s ≡ Some cs → all plain_one cs ≡ true
 unfolding frun
 run_plain q [] cs h e = finish_plain q cs h e
 run_plain q (b ∷ s) cs h e =
@@ -237,7 +238,7 @@ entries_fine k h (c ∷ cs) p m u =
     (and_both (within 1 k (isotope k c.symbol).element) (leb (isotope k c.symbol).mass 300 && within 1 9999 c.count) f.0
     (and_both (leb (isotope k c.symbol).mass 300) (within 1 9999 c.count) f.1 n.1)) (entries_fine k h cs p'.1 m'.1 u'.1)
 
-pub formula_fine_lem : (k : ℕ) → 1 ≤ k → (v : Bytes) (cs : List Counted) → formula_shape v ≡ some cs → all counted_in cs ≡ true → any (λ c. unknown k c.symbol) cs ≡ false
+pub formula_fine_lem : (k : ℕ) → 1 ≤ k → (v : Bytes) (cs : List Counted) → formula_shape v ≡ Some cs → all counted_in cs ≡ true → any (λ c. unknown k c.symbol) cs ≡ false
     → all (entry_fine k) (map (λ c. entry (isotope k c.symbol) c.count) cs) ≡ true
 unfolding formula_shape
 formula_fine_lem k h v cs e m u = entries_fine k h cs (run_plain (between false) v cs refl e) m u

@@ -8,8 +8,9 @@ use native.Mathlib.Omega.{arith}
 use lib.ListN.{length, take, drop, length-append}
 use lib.Seq.{take_at, drop_at, take-append-add, drop-append-add}
 use borrow.Rule.Slice.PartMut.{put_mid}
-use Rattle.lists.specs.Lists.{all, flat, filled}
+use Rattle.lists.specs.Lists.{flat, filled}
 use Rattle.lists.specs.Order.{sort}
+use Rattle.lists.proofs.IndexLaws.{all_every}
 use Rattle.lists.proofs.PartLaws.{filled_length}
 use Rattle.lists.proofs.RegionLaws.{flat_length}
 use Rattle.lists.proofs.SortLaws.{sort_length}
@@ -95,13 +96,8 @@ module _ (a c r b s p l g : List ℕ) (la : length a ≡ 768) (lc : length c ≡
       (seated_past s (p ++ (l ++ g)) 256 274 9 g (λ x. p ++ (l ++ x)) ls (seated_past p (l ++ g) 256 18 9 g (λ x. l ++ x) lp (seated_past l g 18 0 9 g (λ x. x) ll (seated_alone g 9 lg))))
 
 -- HOW LONG EACH REGION IS
-pub all_true : {A : Type 0} (xs : List A) → all (λ x. true) xs ≡ true
-unfolding all
-all_true [] = refl
-all_true (x ∷ xs) = all_true xs
-
 rows_long : {A : Type 0} (w most : ℕ) (cells : A → List ℕ) (xs : List A) → ((x : A) → length (cells x) ≡ w) → w * length xs ≤ most → length (filled 0 most (flat cells xs)) ≡ most
-rows_long w most cells xs wide h = filled_length 0 most (flat cells xs) (omega (arith, flat_length w cells (λ x. true) (λ x e. wide x) xs (all_true xs)))
+rows_long w most cells xs wide h = filled_length 0 most (flat cells xs) (omega (arith, flat_length w cells (λ x. true) (λ x e. wide x) xs (all_every xs)))
 
 pub kinds_long : (listed : List Atom) → length listed ≤ 256 → length (kinds_region listed) ≡ 768
 unfolding kinds_region

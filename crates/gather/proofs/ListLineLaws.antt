@@ -10,17 +10,16 @@ use Rattle.format.specs.Reading.{State, atom_line, row_line}
 use Rattle.format.specs.Reading.{Turn as Turned}
 use Rattle.labels.specs.ShownLines.{by_code}
 use Rattle.sorted.specs.Shown.{LineUntouched}
-use Rattle.sorted.specs.declared.after.LineAfter.{LineAfter}
-use Rattle.sorted.specs.declared.after.LineAfter.TheVariants as L
+use Rattle.std.specs.Prelude.{Result, Ok, Err}
+use Rattle.format.specs.declared.refusal.Refused.{Refused}
+use Rattle.format.specs.declared.refusal.Refusal.TheVariants.{Unlent}
 use Rattle.gather.specs.Progress.{count_for, with_count}
 use Rattle.gather.specs.Shows.{ShowsTurn}
 use Rattle.gather.specs.ListLine.{list_line, turn_of, Gathers, of_list, own_rows, own_most, TurnUntouched}
 use Rattle.gather.specs.declared.progress.Progress.{Progress}
-use Rattle.gather.specs.declared.progress.Turn.{Turn}
-use Rattle.gather.specs.declared.progress.Turn.TheVariants.{Stop}
 
 -- what an answer shows of one turn, it shows of an equal one
-pub turn_shown : (k : ℕ) (block : Bytes) (at : ℕ) (r : Turn) (t : List ℕ) (turned other : Turned) → turned ≡ other → ShowsTurn k block at r t other → ShowsTurn k block at r t turned
+pub turn_shown : (k : ℕ) (block : Bytes) (at : ℕ) (r : Result Progress Refused) (t : List ℕ) (turned other : Turned) → turned ≡ other → ShowsTurn k block at r t other → ShowsTurn k block at r t turned
 turn_shown k block at r t turned other e h = rw e h
 
 -- A LINE OF A LIST, by its label's code
@@ -80,19 +79,20 @@ pub count_as : (code own c : ℕ) (p : Progress) → code ≡ own → with_count
 count_as code own c p e = ap (λ (n : ℕ). with_count n c p) (sym e)
 
 -- what the list's own line promises, so does the turn that is made of its answer
-pub turn_gathers : (code k place : ℕ) (fs : List Bytes) (p : Progress) (before after : List ℕ) (answer : LineAfter) (r : Turn) → (6 ≤ code → code ≤ 11 → r ≡ turn_of code p answer)
+pub turn_gathers : (code k place : ℕ) (fs : List Bytes) (p : Progress) (before after : List ℕ) (answer : Result ℕ Refused) (r : Result Progress Refused) → (6 ≤ code → code ≤ 11 → r ≡ turn_of code p answer)
     → Gathers code k place fs p before after (turn_of code p answer) → Gathers code k place fs p before after r
 turn_gathers code k place fs p before after answer r is told c low six eleven = rw (is six eleven) (told c low six eleven)
 
 -- rows that are kept were lent, and a refusal of what was not is handed on
-kept_torn : {X : Type 0} (c place : ℕ) → L.Kept c ≡ L.Refused 0 place → X
-kept_torn c place e = absurd (let z : ◌≡◌ {A = ℕ} 0 1 = cc in omega arith)
+abbrev unlent : (place : ℕ) → Refused
+unlent place = record { refusal = Unlent; place = place }
 
-pub kept_untouched : (place c : ℕ) (before after : List ℕ) (answer : LineAfter) (r : Turn) → answer ≡ L.Kept c → LineUntouched place before after answer → TurnUntouched place before after r
-kept_untouched place c before after answer r e w = kept_torn c place (sym e ∙ w.0)
+pub kept_untouched : (place c : ℕ) (before after : List ℕ) (answer : Result ℕ Refused) (r : Result Progress Refused) → answer ≡ Ok c → LineUntouched place before after answer → TurnUntouched place before after r
+kept_untouched place c before after answer r e w = let q : ◌≡◌ {A = Result ℕ Refused} (Ok c) (Err (unlent place)) = sym e ∙ w.0 in let z : ◌≡◌ {A = ℕ} 0 1 = cc in absurd (omega arith)
 
-stop_zero : (n q place : ℕ) → L.Refused n q ≡ L.Refused 0 place → Stop n q ≡ Stop 0 place
-stop_zero n q place e = cc
-
-pub stop_untouched : (place n q : ℕ) (before after : List ℕ) (answer : LineAfter) → answer ≡ L.Refused n q → LineUntouched place before after answer → TurnUntouched place before after (Stop n q)
-stop_untouched place n q before after answer e w = (stop_zero n q place (sym e ∙ w.0), w.1)
+pub stop_untouched : (place : ℕ) (e : Refused) (before after : List ℕ) (answer : Result ℕ Refused) (r : Result Progress Refused) → answer ≡ Err e → r ≡ Err e → LineUntouched place before after answer
+    → TurnUntouched place before after r
+stop_untouched place e before after answer r a b w =
+    let q : ◌≡◌ {A = Result ℕ Refused} (Err e) (Err (unlent place)) = sym a ∙ w.0 in
+    let z : e ≡ unlent place = cc in
+    (b ∙ ap Err z, w.1)

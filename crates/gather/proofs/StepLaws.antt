@@ -2,7 +2,8 @@
 use Prim.Native.Nat.{ℕ, suc}
 use mathlib.Core.Path.{◌≡◌, refl, sym, ap}
 use mathlib.Core.Bool.{Bool, true, false, ◌&&◌, not}
-use mathlib.Core.Option.{Option, none, some}
+use Rattle.std.specs.declared.option.Option.{Option}
+use Rattle.std.specs.declared.option.Option.TheVariants.{None, Some}
 use mathlib.Core.List.{List, [], ◌∷◌, ◌++◌}
 use lib.ListN.{length}
 use lib.Dec.{eqb, leb}
@@ -49,8 +50,8 @@ row_table l st false false false false false false r = refl
 
 row_turn_lem : (l : ListOf) (st : State) (o : Option Row) → row_turn l st o ≡ with_kept l st (row_after l (atom_count st) (rows_of l st.body) o)
 unfolding row_turn row_after join_turn join_after
-row_turn_lem l st none = refl
-row_turn_lem l st (some r) =
+row_turn_lem l st None = refl
+row_turn_lem l st (Some r) =
     row_table l st (not (ranged l r.value)) (not (all (within 1 (atom_count st)) r.atoms)) (pairs eqb r.atoms) (any (clash l (ordered r)) (rows_of l st.body))
     (any (meets l (ordered r)) (rows_of l st.body)) (leb (most l) (length (rows_of l st.body))) (ordered r)
 
@@ -71,8 +72,8 @@ atom_table st false false false false next = refl
 
 atom_turn_lem : (k : ℕ) (st : State) (o : Option AtomRow) → atom_turn k st o ≡ with_listed st (atom_after k st.body.atoms o)
 unfolding atom_turn atom_after
-atom_turn_lem k st none = refl
-atom_turn_lem k st (some r) =
+atom_turn_lem k st None = refl
+atom_turn_lem k st (Some r) =
     atom_table st (not (mass_ok r.symbol && leb r.hydrogens 15)) (not (eqb r.number (suc (atom_count st)))) (unknown k r.symbol) (leb 256 (atom_count st))
     (st.body.atoms ++ (record { kind = isotope k r.symbol; hydrogens = r.hydrogens } ∷ []))
 

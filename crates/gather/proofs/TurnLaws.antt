@@ -8,7 +8,7 @@ use mathlib.Core.List.{List, [], ◌∷◌}
 use native.Mathlib.Omega.{arith}
 use lib.ListN.{length, take, drop, length-drop, length-append}
 use lib.Seq.{length-take-le}
-use borrow.Rule.Slice.PartMut.{put_mid, put_same, same_len_mid}
+use borrow.Rule.Slice.PartMut.{put_mid, put_same}
 use Rattle.lists.specs.Lists.{all}
 use Rattle.lists.proofs.ListLaws.{all_append_both, all_one}
 use Rattle.format.specs.Bytes.{Bytes}
@@ -20,9 +20,10 @@ use Rattle.format.specs.Reading.{State, with_rows, with_atoms, row_line, atom_li
 use Rattle.sorted.specs.Steps.{After, kept, refused, row_step, atom_step}
 use Rattle.sorted.specs.Regions.{Fits, kinds_region}
 use Rattle.sorted.specs.GeometryRegion.{GeometryFine}
-use Rattle.sorted.specs.Shown.{ShowsLine, LineWithin, LineUntouched}
-use Rattle.sorted.specs.declared.after.LineAfter.{LineAfter}
-use Rattle.sorted.specs.declared.after.LineAfter.TheVariants as L
+use Rattle.std.specs.Prelude.{Result, Ok, Err}
+use Rattle.std.proofs.lemmas.Result.{err_from_is_err_and}
+use Rattle.format.specs.declared.refusal.Refused.{Refused}
+use Rattle.sorted.specs.Shown.{ShowsLine, KeptWithin, LineUntouched}
 use Rattle.sorted.proofs.FitLaws.{fits_kept, fits_more}
 use Rattle.sorted.proofs.GeometryLaws.{fine_up}
 use Rattle.gather.specs.Progress.{laid, with_count, Counted, CountedTurn, Listed, count_of}
@@ -99,41 +100,37 @@ rows_listed l rs p s h f =
       handed = o.2 ∙ h.handed;
     }
 
--- a part of so many numbers put back leaves as many
-pub put_long : (from size : ℕ) (t region : List ℕ) → length t ≡ 2973 → from + size ≤ 2973 → length region ≡ size → length (put_mid from size t region) ≡ 2973
-put_long from size t region h k e = same_len_mid from size t region (e ∙ sym (length-take-le size (drop from t) (simp length-drop (omega arith)))) ∙ h
-
+-- a part of so many numbers
 pub part_long : (from size : ℕ) (t : List ℕ) → length t ≡ 2973 → from + size ≤ 2973 → length (take size (drop from t)) ≡ size
 part_long from size t h k = length-take-le size (drop from t) (simp length-drop (omega arith))
 
 -- what a list's own line says of its part of the scratch: the part stays as long; where all is as it should be, the count is within the limit, and what it shows; where it
 -- is not, nothing is touched
-abbrev pub Told : (size count limit place : ℕ) → Progress → (part region : List ℕ) → LineAfter → Type 0 → Type 0
+abbrev pub Told : (size count limit place : ℕ) → Progress → (part region : List ℕ) → Result ℕ Refused → Type 0 → Type 0
 Told size count limit place p part region r Shown =
-    (length region ≡ length part) × (length part ≡ size → Counted p → LineWithin limit r × Shown) × ((length part ≡ size → count ≤ limit → p.atoms ≤ 256 → ⊥) → LineUntouched place part region r)
+    (length region ≡ length part) × (length part ≡ size → Counted p → KeptWithin limit r × Shown) × ((length part ≡ size → count ≤ limit → p.atoms ≤ 256 → ⊥) → LineUntouched place part region r)
 
 -- and so all that a line promises in the whole scratch
-abbrev pub Gathered : (code k place : ℕ) → List Bytes → Progress → (before after : List ℕ) → LineAfter → Type 0
+abbrev pub Gathered : (code k place : ℕ) → List Bytes → Progress → (before after : List ℕ) → Result ℕ Refused → Type 0
 Gathered code k place fs p before after r =
-    (length after ≡ 2973) × Gathers code k place fs p before after (turn_of code p r) × ((ListLent code p before → ⊥) → LineUntouched place before after r)
+    Gathers code k place fs p before after (turn_of code p r) × ((ListLent code p before → ⊥) → LineUntouched place before after r)
 
-counted_turn : (code limit : ℕ) (p : Progress) (r : LineAfter) → ((c : ℕ) → c ≤ limit → Counted (with_count code c p)) → LineWithin limit r → CountedTurn p (turn_of code p r)
-counted_turn code limit p (L.Kept c) keeps f = (keeps c (f c refl), refl)
-counted_turn code limit p (L.Refused n q) keeps f = tt
+counted_turn : (code limit : ℕ) (p : Progress) (r : Result ℕ Refused) → ((c : ℕ) → c ≤ limit → Counted (with_count code c p)) → KeptWithin limit r → CountedTurn p (turn_of code p r)
+counted_turn code limit p (Ok c) keeps f = (keeps c f, refl)
+counted_turn code limit p (Err e) keeps f = tt
 
 -- a part that is as it was, put back
-put_untouched : (from size place : ℕ) (t region : List ℕ) (r : LineAfter) → LineUntouched place (take size (drop from t)) region r → LineUntouched place t (put_mid from size t region) r
+put_untouched : (from size place : ℕ) (t region : List ℕ) (r : Result ℕ Refused) → LineUntouched place (take size (drop from t)) region r → LineUntouched place t (put_mid from size t region) r
 put_untouched from size place t region r w = (w.0, ap (put_mid from size t) w.1 ∙ put_same from size t)
 
 -- `own` is the list's code
-told_gathers : (code k place : ℕ) (fs : List Bytes) (p : Progress) (t region : List ℕ) (r : LineAfter) (own from size count limit : ℕ) (Shown : Type 0) → from + size ≤ 2973
+told_gathers : (code k place : ℕ) (fs : List Bytes) (p : Progress) (t region : List ℕ) (r : Result ℕ Refused) (own from size count limit : ℕ) (Shown : Type 0) → from + size ≤ 2973
     → ((c : ℕ) → Counted p → c ≤ limit → Counted (with_count own c p))
     → (Counted p → 1 ≤ k → Shown → (block : Bytes) (st : State) → Shows k block place p t st → ShowsTurn k block place (turn_of own p r) (put_mid from size t region) (list_line own k st fs))
     → Own code own count limit p → Told size count limit place p (take size (drop from t)) region r Shown → length t ≡ 2973
     → Gathered code k place fs p t (put_mid from size t region) r
 told_gathers code k place fs p t region r own from size count limit Shown room keeps shows is told long =
     let w = part_long from size t long room in (
-      put_long from size t region long room (told.0 ∙ w),
       λ c low six eleven. rw (is.is six eleven) (counted_turn own limit p r (λ n. keeps n c) (told.1 w c).0, shows c low (told.1 w c).1),
       λ other. put_untouched from size place t region r (told.2 (λ long' few atoms. other (record { long = long; atoms = atoms; rows = rw (is.rows, is.most) few }))),
     )
@@ -146,11 +143,11 @@ region_within Radicals = omega arith
 region_within Centres = omega arith
 region_within Pairs = omega arith
 
-abbrev pub RowsShown : ListOf → (place : ℕ) → Progress → (t region : List ℕ) → List Bytes → LineAfter → Type 0
+abbrev pub RowsShown : ListOf → (place : ℕ) → Progress → (t region : List ℕ) → List Bytes → Result ℕ Refused → Type 0
 RowsShown l place p t region fs r =
     (rs : List Row) → length rs ≡ count_of l p → Fits l p.atoms rs → take (size_of l) (drop (from_of l) t) ≡ shown_as l rs → ShowsLine (shown_as l) place region r (row_step l p.atoms rs fs)
 
-module _ (l : ListOf) (at : ℕ) (p : Progress) (t region : List ℕ) (fs : List Bytes) (r : LineAfter) (sim : RowsShown l at p t region fs r) where
+module _ (l : ListOf) (at : ℕ) (p : Progress) (t region : List ℕ) (fs : List Bytes) (r : Result ℕ Refused) (sim : RowsShown l at p t region fs r) where
   module _ (k : ℕ) (block : Bytes) (st : State) (h : Shows k block at p t st) (c : Counted p) where
     rows_shown : (next : List Row) → Fits l p.atoms next → region ≡ shown_as l next → Shows k block at (with_count (code_of l) (length next) p) (put_mid (from_of l) (size_of l) t region) (rows_put l st next)
     rows_shown next f e = record {
@@ -179,9 +176,9 @@ module _ (l : ListOf) (at : ℕ) (p : Progress) (t region : List ℕ) (fs : List
 
         go : (a : After Row) → row_step l p.atoms (rows_of l st.body) fs ≡ a → ShowsLine (shown_as l) at region r a → ShowsTurn k block at (turn_of (code_of l) p r) (put_mid (from_of l) (size_of l) t region) (row_line l st fs)
         go (kept next) e s = rw (line_is (kept next) e, s.0) (rows_shown next (fits_kept l p.atoms (rows_of l st.body) next fs (h.holding.listed.fits l) e) s.1)
-        go (refused n) e s = rw (line_is (refused n) e, s) (refl, refl)
+        go (refused n) e s = let x = err_from_is_err_and r s in rw (line_is (refused n) e, x.1) x.2
 
-pub rows_gather : (l : ListOf) (code k place : ℕ) (fs : List Bytes) (p : Progress) (t region : List ℕ) (r : LineAfter)
+pub rows_gather : (l : ListOf) (code k place : ℕ) (fs : List Bytes) (p : Progress) (t region : List ℕ) (r : Result ℕ Refused)
     → Own code (code_of l) (count_of l p) (limit_of l) p → Told (size_of l) (count_of l p) (limit_of l) place p (take (size_of l) (drop (from_of l) t)) region r (RowsShown l place p t region fs r) → length t ≡ 2973
     → Gathered code k place fs p t (put_mid (from_of l) (size_of l) t region) r
 rows_gather l code k place fs p t region r =
@@ -203,10 +200,10 @@ atom_geometry : (k : ℕ) (listed next : List Atom) (n : ℕ) (g : Geometry) →
 atom_geometry k listed next n g (inl e) q h = rw (e, q) h
 atom_geometry k listed next n g (inr a) q h = fine_up n (length next) g (omega (arith, q, ap length a.is ∙ length-append listed (a.new ∷ []))) h
 
-abbrev pub AtomsShown : (place : ℕ) → Progress → (t region : List ℕ) → List Bytes → LineAfter → (k : ℕ) → Type 0
+abbrev pub AtomsShown : (place : ℕ) → Progress → (t region : List ℕ) → List Bytes → Result ℕ Refused → (k : ℕ) → Type 0
 AtomsShown place p t region fs r k = (listed : List Atom) → length listed ≡ p.atoms → take 768 (drop 0 t) ≡ kinds_region listed → ShowsLine kinds_region place region r (atom_step k listed fs)
 
-module _ (at : ℕ) (p : Progress) (t region : List ℕ) (fs : List Bytes) (r : LineAfter) (k : ℕ) (sim : AtomsShown at p t region fs r k) where
+module _ (at : ℕ) (p : Progress) (t region : List ℕ) (fs : List Bytes) (r : Result ℕ Refused) (k : ℕ) (sim : AtomsShown at p t region fs r k) where
   module _ (low : 1 ≤ k) (block : Bytes) (st : State) (h : Shows k block at p t st) (c : Counted p) where
     atoms_listed : (next : List Atom) → ((next ≡ st.body.atoms) ⊎ AtomAdded k st.body.atoms next) → Listed (with_count 6 (length next) p) (with_atoms next st.body)
     unfolding rows_of
@@ -247,9 +244,9 @@ module _ (at : ℕ) (p : Progress) (t region : List ℕ) (fs : List Bytes) (r : 
 
         go : (a : After Atom) → atom_step k st.body.atoms fs ≡ a → ShowsLine kinds_region at region r a → ShowsTurn k block at (turn_of 6 p r) (put_mid 0 768 t region) (atom_line k st fs)
         go (kept next) e s = rw (line_is (kept next) e, s.0) (atoms_shown next (atom_kept k low st.body.atoms next fs e) s.1)
-        go (refused n) e s = rw (line_is (refused n) e, s) (refl, refl)
+        go (refused n) e s = let x = err_from_is_err_and r s in rw (line_is (refused n) e, x.1) x.2
 
-pub atoms_gather : (code k place : ℕ) (fs : List Bytes) (p : Progress) (t region : List ℕ) (r : LineAfter)
+pub atoms_gather : (code k place : ℕ) (fs : List Bytes) (p : Progress) (t region : List ℕ) (r : Result ℕ Refused)
     → Own code 6 p.atoms 256 p → Told 768 p.atoms 256 place p (take 768 (drop 0 t)) region r (AtomsShown place p t region fs r k) → length t ≡ 2973
     → Gathered code k place fs p t (put_mid 0 768 t region) r
 atoms_gather code k place fs p t region r =

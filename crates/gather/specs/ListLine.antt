@@ -1,17 +1,15 @@
 -- A line of a list, by what the running record holds: document 01, "Rows". Assumes nothing.
-use Rattle.std.specs.Prelude.{ℕ, ◌≤◌, ◌≡◌, List, length}
+use Rattle.std.specs.Prelude.{ℕ, ◌≤◌, ◌≡◌, List, length, Result, Ok, Err}
 use Rattle.format.specs.Bytes.{Bytes}
 use Rattle.format.specs.Labels.{Holds, Text, Version, Formula, BlockId, Atoms, Rows, Xyz, Handedness, End, Skipped, known}
 use Rattle.format.specs.Reading.{State, atom_line, row_line}
 use Rattle.format.specs.Reading.{Go as going, Turn as Turned}
+use Rattle.format.specs.declared.refusal.Refusal.TheVariants.{Unlent}
+use Rattle.format.specs.declared.refusal.Refused.{Refused}
 use Rattle.labels.specs.ShownLines.{by_code}
-use Rattle.sorted.specs.declared.after.LineAfter.{LineAfter}
-use Rattle.sorted.specs.declared.after.LineAfter.TheVariants as L
 use Rattle.gather.specs.Progress.{count_for, with_count, Counted, CountedTurn}
 use Rattle.gather.specs.Shows.{Shows, ShowsTurn}
 use Rattle.gather.specs.declared.progress.Progress.{Progress}
-use Rattle.gather.specs.declared.progress.Turn.{Turn}
-use Rattle.gather.specs.declared.progress.Turn.TheVariants.{Go, Stop}
 
 abbrev pub held_line : Holds → (k : ℕ) → State → List Bytes → Turned
 held_line (Text i) k st fs = going st
@@ -29,12 +27,12 @@ abbrev pub list_line : (code k : ℕ) → State → List Bytes → Turned
 list_line code k st fs = held_line (by_code code known).holds k st fs
 
 -- the turn that an answer of the list's own line is
-abbrev pub turn_of : (code : ℕ) → Progress → LineAfter → Turn
-turn_of code p (L.Kept c) = Go (with_count code c p)
-turn_of code p (L.Refused n q) = Stop n q
+abbrev pub turn_of : (code : ℕ) → Progress → Result ℕ Refused → Result Progress Refused
+turn_of code p (Ok c) = Ok (with_count code c p)
+turn_of code p (Err e) = Err e
 
 -- what a line of the list whose label has the code promises, k elements known
-abbrev pub Gathers : (code k place : ℕ) → List Bytes → Progress → (before after : List ℕ) → Turn → Type 0
+abbrev pub Gathers : (code k place : ℕ) → List Bytes → Progress → (before after : List ℕ) → Result Progress Refused → Type 0
 Gathers code k place fs p before after r =
     Counted p → 1 ≤ k → 6 ≤ code → code ≤ 11
     → CountedTurn p r × ((block : Bytes) (st : State) → Shows k block place p before st → ShowsTurn k block place r after (list_line code k st fs))
@@ -55,6 +53,6 @@ pub record ListLent (code : ℕ) (p : Progress) (t : List ℕ) : Type 0 where
   pub atoms : p.atoms ≤ 256
   pub rows : own_rows code p ≤ own_most code
 
--- what no reading lends is answered 0 with the line's place, and the scratch is as it was
-abbrev pub TurnUntouched : (place : ℕ) → (before after : List ℕ) → Turn → Type 0
-TurnUntouched place before after r = (r ≡ Stop 0 place) × (after ≡ before)
+-- what no reading lends is answered Unlent with the line's place, and the scratch is as it was
+abbrev pub TurnUntouched : (place : ℕ) → (before after : List ℕ) → Result Progress Refused → Type 0
+TurnUntouched place before after r = (r ≡ Err (record { refusal = Unlent; place = place })) × (after ≡ before)

@@ -1,33 +1,33 @@
 -- What the reader's progress and scratch hold of a state: document 01, "Lines and labels", "Rows". Assumes nothing.
-use Rattle.std.specs.Prelude.{ℕ, ◌-◌, ◌≤◌, ◌<◌, ◌≡◌, Bool, true, false, ◌&&◌, List, [], ◌∷◌, ◌++◌, map, length, take, drop, eqb, leb}
-use Rattle.std.proofs.Math.Option.{Option, none, some}
+use Rattle.std.specs.Prelude.{ℕ, ◌-◌, ◌≤◌, ◌<◌, ◌≡◌, Bool, true, false, ◌&&◌, List, [], ◌∷◌, ◌++◌, map, length, take, drop, eqb, leb, Result, IfOk}
+use Rattle.std.specs.declared.option.Option.{Option}
+use Rattle.std.specs.declared.option.Option.TheVariants.{None, Some}
 use Rattle.lists.specs.Lists.{all}
 use Rattle.format.specs.Bytes.{Bytes, within}
 use Rattle.format.specs.Labels.{ListOf, Bonds, Charges, Radicals, Centres, Pairs}
 use Rattle.format.specs.Formula.{Counted as Told, formula_shape}
 use Rattle.format.specs.Structure.{Structure, Entry, entry, isotope, atom_ok, rows_of}
 use Rattle.format.specs.Reading.{Prose, prose, State}
+use Rattle.format.specs.declared.refusal.Refused.{Refused}
 use Rattle.sorted.specs.Regions.{kinds_region, spread_region, keyed_region, seen_from, Fits}
 use Rattle.sorted.specs.GeometryRegion.{geometry_region, GeometryFine}
-use Rattle.gather.specs.declared.progress.Part.{Part}
+use Rattle.fields.specs.declared.Field.{Field}
 use Rattle.gather.specs.declared.progress.Progress.{Progress}
-use Rattle.gather.specs.declared.progress.Turn.{Turn}
-use Rattle.gather.specs.declared.progress.Turn.TheVariants.{Go, Stop}
 
 -- a part of the block
 abbrev pub part_of : Bytes → (from to : ℕ) → Bytes
 part_of block from to = take (to - from) (drop from block)
 
 -- a text record as it stands in the block; one that was not read has no bytes, from place 0 to 0
-abbrev pub prose_at : Bytes → Part → Prose
+abbrev pub prose_at : Bytes → Field → Prose
 prose_at block x = prose x.from (part_of block x.from x.to)
 
 -- the formula's entries, from the part of its line that is no comment
 abbrev pub entries_from : (k : ℕ) → Option (List Told) → List Entry
-entries_from k none = []
-entries_from k (some cs) = map (λ c. entry (isotope k c.symbol) c.count) cs
+entries_from k None = []
+entries_from k (Some cs) = map (λ c. entry (isotope k c.symbol) c.count) cs
 
-abbrev pub formula_at : (k : ℕ) → Bytes → Part → List Entry
+abbrev pub formula_at : (k : ℕ) → Bytes → Field → List Entry
 formula_at k block x = entries_from k (formula_shape (part_of block x.from x.to))
 
 abbrev pub count_of : ListOf → Progress → ℕ
@@ -59,7 +59,7 @@ pub record Counted (p : Progress) : Type 0 where
   pub pairs : p.pairs ≤ 128
 
 -- a part lies in a block of so many bytes
-pub record Within (size : ℕ) (x : Part) : Type 0 where
+pub record Within (size : ℕ) (x : Field) : Type 0 where
   pub order : x.from ≤ x.to
   pub high : x.to ≤ size
 
@@ -79,9 +79,8 @@ pub record Flowing (at : ℕ) (p : Progress) : Type 0 where
   pub origin : p.running ≡ 3 → p.origin.to ≡ at
   pub owner : p.running ≡ 4 → p.owner.to ≡ at
 
-abbrev pub FlowingTurn : (at : ℕ) → Turn → Type 0
-FlowingTurn at (Go p) = Flowing at p
-FlowingTurn at (Stop n q) = Unit {0}
+abbrev pub FlowingTurn : (at : ℕ) → Result Progress Refused → Type 0
+FlowingTurn at r = IfOk r (Flowing at)
 
 -- p with the counts of q: what a list's line leaves
 abbrev pub recounted : (p q : Progress) → Progress
@@ -103,7 +102,7 @@ recounted p q = record {
 }
 
 -- the same counts of rows, all else as given
-abbrev pub altered : (running top : ℕ) (title origin owner formula : Part) (atoms id : ℕ) → Progress → Progress
+abbrev pub altered : (running top : ℕ) (title origin owner formula : Field) (atoms id : ℕ) → Progress → Progress
 altered running top title origin owner formula atoms id p = record {
   running = running;
   top = top;
@@ -143,13 +142,11 @@ with_count code c p = record {
   handed = p.handed;
 }
 
-abbrev pub CountedTurn : Progress → Turn → Type 0
-CountedTurn p (Go q) = Counted q × (q ≡ recounted p q)
-CountedTurn p (Stop n q) = Unit {0}
+abbrev pub CountedTurn : Progress → Result Progress Refused → Type 0
+CountedTurn p r = IfOk r (λ q. Counted q × (q ≡ recounted p q))
 
-abbrev pub BoundedTurn : (size : ℕ) → Turn → Type 0
-BoundedTurn size (Go p) = Bounded size p
-BoundedTurn size (Stop n q) = Unit {0}
+abbrev pub BoundedTurn : (size : ℕ) → Result Progress Refused → Type 0
+BoundedTurn size r = IfOk r (Bounded size)
 
 -- The structure so far: how many atoms and rows it has, and what its rows keep
 pub record Listed (p : Progress) (s : Structure) : Type 0 where

@@ -1,6 +1,6 @@
 -- What a run of quick rows promises: the reading goes on from the place where it stopped, in a state that progress and scratch show there. Document 01, "Rows".
 -- Assumes nothing.
-use Rattle.std.specs.Prelude.{ℕ, ◌≤◌, ◌≡◌, false, List, length, drop}
+use Rattle.std.specs.Prelude.{ℕ, ◌≤◌, ◌≡◌, false, List, length, drop, Ok}
 use Rattle.lists.specs.Lists.{is_nil}
 use Rattle.format.specs.Bytes.{Bytes, cut}
 use Rattle.format.specs.Labels.{Bonds, Atoms, Rows}
@@ -8,7 +8,6 @@ use Rattle.format.specs.Reading.{Rules, State, read_lines}
 use Rattle.gather.specs.Progress.{with_count, Counted, CountedTurn}
 use Rattle.gather.specs.Shows.{Shows}
 use Rattle.gather.specs.declared.progress.Progress.{Progress}
-use Rattle.gather.specs.declared.progress.Turn.TheVariants.{Go}
 use Rattle.gather.specs.declared.runs.Run.{Run}
 use Rattle.gather.specs.declared.Ran.{Ran}
 
@@ -40,6 +39,6 @@ pub record BondsRan (block : Bytes) (at atoms bonds : ℕ) (before after : List 
 pub record RowsRan (k : ℕ) (block : Bytes) (at : ℕ) (p : Progress) (before after : List ℕ) (r : Ran) : Type 0 where
   pub low : at ≤ r.place
   pub high : at ≤ length block → r.place ≤ length block
-  pub counted : Counted p → CountedTurn p (Go r.known)
+  pub counted : Counted p → CountedTurn p (Ok r.known)
   pub still : (p.running ≡ 6 → ⊥) → (p.running ≡ 7 → ⊥) → r.place ≡ at
   pub goes : (u : Rules) (st : State) → u.elements ≡ k → 1 ≤ k → Counted p → Shows k block at p before st → Reached u k block at r.place r.known after st

@@ -1,14 +1,12 @@
 // Quick rows one behind the other, as programs write them: document 01, "Rows", ATOMLIST and BONDLIST. A run refuses nothing: it stops before the first line that is
 // no quick row or whose row does not join its list, and the ordinary step judges that line.
-ghost use Rattle.std.specs.Prelude.{◌≡◌, length};
 ghost use Rattle.gather.specs.Runs.{AtomsRan, BondsRan};
 
 use atoms::put_atom;
 use elements::isotope_of;
 use format::Table;
-use quick::atom::{QuickAtom, quick_atom};
-use quick::bond::{QuickBond, quick_bond};
-use sorted::after::RowAfter;
+use quick::atom::quick_atom;
+use quick::bond::quick_bond;
 use sorted::keyed::bond_joined;
 use sorted::scratch::Scratch;
 
@@ -20,68 +18,74 @@ pub struct Run {
 }
 
 // The quick rows of ATOMLIST from `at` on, `atoms` atoms there and the elements known up to `last`: "Numbers run 1, 2, 3 and on."
-pub fn atom_run(block: &[u8], at: usize, last: u32, atoms: usize, scratch: &mut [u32]) -> Run
-    requires { length scratch.old ≡ 2973 }
-    ensures { (length scratch.new ≡ 2973) × AtomsRan last block.now at atoms scratch.old scratch.new result }
+pub fn atom_run(
+    block: &[u8],
+    at: usize,
+    last: u32,
+    atoms: usize,
+    scratch: &mut [u32; Scratch::SIZE],
+) -> Run
+    ensures { AtomsRan last block.now at atoms scratch.old scratch.new result }
 {
     let mut place = at;
     let mut count = atoms;
     while count < Table::ATOMS {
-        let QuickAtom::Values(number, mark, hydrogens, next) = quick_atom(block, place) else {
+        let Some(quick) = quick_atom(block, place) else {
             return Run { place, count };
         };
         let listed = count + 1;
-        if number as usize != listed {
+        if quick.row.number as usize != listed {
             return Run { place, count };
         }
-        let isotope = isotope_of(mark, last);
-        let element = isotope.element;
-        if element == 0 {
+        let isotope = isotope_of(quick.row.mark, last);
+        if isotope.element == 0 {
             return Run { place, count };
         }
         put_atom(
             &mut scratch[0..Scratch::KINDS],
             count,
-            element,
+            isotope.element,
             isotope.mass,
-            hydrogens,
+            quick.row.hydrogens,
         );
         count = listed;
-        place = next;
+        place = quick.next;
     }
     Run { place, count }
 }
 
 // The quick rows of BONDLIST from `at` on, `bonds` bonds there and `atoms` atoms listed.
-pub fn bond_run(block: &[u8], at: usize, atoms: usize, bonds: usize, scratch: &mut [u32]) -> Run
-    requires { length scratch.old ≡ 2973 }
-    ensures { (length scratch.new ≡ 2973) × BondsRan block.now at atoms bonds scratch.old scratch.new result }
+pub fn bond_run(
+    block: &[u8],
+    at: usize,
+    atoms: usize,
+    bonds: usize,
+    scratch: &mut [u32; Scratch::SIZE],
+) -> Run
+    ensures { BondsRan block.now at atoms bonds scratch.old scratch.new result }
 {
     let mut place = at;
     let mut count = bonds;
-    if Table::ATOMS < atoms {
-        return Run { place, count };
-    }
-    if Table::BONDS < bonds {
+    if Table::ATOMS < atoms || Table::BONDS < bonds {
         return Run { place, count };
     }
     while place < block.len() {
-        let QuickBond::Values(first, second, kind, next) = quick_bond(block, place) else {
+        let Some(quick) = quick_bond(block, place) else {
             return Run { place, count };
         };
-        let after = bond_joined(
-            first,
-            second,
-            kind,
+        let joined = bond_joined(
+            quick.row.first,
+            quick.row.second,
+            quick.row.kind,
             atoms,
             count,
             &mut scratch[Scratch::FIRST_BOND..Scratch::FIRST_CENTRE],
         );
-        let RowAfter::Kept(more) = after else {
+        let Ok(more) = joined else {
             return Run { place, count };
         };
         count = more;
-        place = next;
+        place = quick.next;
     }
     Run { place, count }
 }

@@ -1,14 +1,15 @@
-// One line of a list, in the list's own region of the scratch, and the count that it leaves: document 01, "Rows". A list is told by its label's code. The line lent
-// is without its comment.
-ghost use Rattle.std.specs.Prelude.{◌≡◌, ◌≤◌, length};
+// One line of a list, in the list's own region of the scratch, and the count that it leaves: document 01, "Rows". A list is told by its label's code, a
+// number, since public `list_turn` answers any. The line lent is without its comment.
+ghost use Rattle.std.specs.Prelude.{◌≡◌, ◌≤◌};
 ghost use Rattle.format.specs.Bytes.{fields};
 ghost use Rattle.gather.specs.Progress.{with_count};
 ghost use Rattle.sorted.specs.Shown.{LineUntouched};
 ghost use Rattle.gather.specs.ListLine.{turn_of, Gathers, ListLent};
 
+use crate::codes::{ATOMLIST, BONDLIST, CHARGE, RADICAL, STEREOCENTER};
 use crate::progress::Progress;
 use atoms::atom_line;
-use sorted::after::LineAfter;
+use format::refusal::Refused;
 use sorted::keyed::{bond_line, centre_line, pair_line};
 use sorted::scratch::Scratch;
 use spread::spread_line;
@@ -20,27 +21,26 @@ pub fn line_after(
     code: u32,
     last: u32,
     p: Progress,
-    scratch: &mut [u32],
-) -> LineAfter
-    requires { length scratch.old ≡ 2973 }
-    ensures { (length scratch.new ≡ 2973) × Gathers code last place (fields line.now) p scratch.old scratch.new (turn_of code p result)
+    scratch: &mut [u32; Scratch::SIZE],
+) -> Result<usize, Refused>
+    ensures { Gathers code last place (fields line.now) p scratch.old scratch.new (turn_of code p result)
         × ((ListLent code p scratch.old → ⊥) → LineUntouched place scratch.old scratch.new result) }
 {
     match code {
-        6 => atom_line(line, place, last, p.atoms, &mut scratch[0..Scratch::KINDS]),
-        7 => {
+        ATOMLIST => atom_line(line, place, last, p.atoms, &mut scratch[0..Scratch::KINDS]),
+        BONDLIST => {
             let region = &mut scratch[Scratch::FIRST_BOND..Scratch::FIRST_CENTRE];
             bond_line(line, place, p.atoms, p.bonds, region)
         }
-        8 => {
+        CHARGE => {
             let region = &mut scratch[Scratch::FIRST_CHARGE..Scratch::FIRST_RADICAL];
             spread_line(line, place, true, p.atoms, p.charges, region)
         }
-        9 => {
+        RADICAL => {
             let region = &mut scratch[Scratch::FIRST_RADICAL..Scratch::FIRST_BOND];
             spread_line(line, place, false, p.atoms, p.radicals, region)
         }
-        10 => {
+        STEREOCENTER => {
             let region = &mut scratch[Scratch::FIRST_CENTRE..Scratch::FIRST_PAIR];
             centre_line(line, place, p.atoms, p.centres, region)
         }
@@ -52,33 +52,24 @@ pub fn line_after(
 }
 
 // What is known, with the count that the list has now.
-pub fn with_count(code: u32, count: usize, mut p: Progress) -> Progress
+pub fn with_count(code: u32, count: usize, p: Progress) -> Progress
     ensures { 6 ≤ code → code ≤ 11 → result ≡ with_count code count p }
 {
     match code {
-        6 => {
-            p.atoms = count;
-            p
-        }
-        7 => {
-            p.bonds = count;
-            p
-        }
-        8 => {
-            p.charges = count;
-            p
-        }
-        9 => {
-            p.radicals = count;
-            p
-        }
-        10 => {
-            p.centres = count;
-            p
-        }
-        _ => {
-            p.pairs = count;
-            p
-        }
+        ATOMLIST => Progress { atoms: count, ..p },
+        BONDLIST => Progress { bonds: count, ..p },
+        CHARGE => Progress {
+            charges: count,
+            ..p
+        },
+        RADICAL => Progress {
+            radicals: count,
+            ..p
+        },
+        STEREOCENTER => Progress {
+            centres: count,
+            ..p
+        },
+        _ => Progress { pairs: count, ..p },
     }
 }

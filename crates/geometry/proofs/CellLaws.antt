@@ -1,55 +1,47 @@
 -- The cells of the geometry's region: what they become with one row more, the latest row's atom against a further one, the largest size against MAX_XYZ.
 -- Document 02, L2. Assumes nothing.
-use Rattle.std.proofs.Common.{◌≡◌, ℕ, suc, ◌+◌, ◌-◌, ◌%◌, ◌^◌, ◌<◌, ◌≤◌, max, Bool, true, false, ◌||◌, ltb, leb, List, [], ◌∷◌, length, get_or, ℤ, pos, negsuc, nat_abs, sym, refl, ap, ◌∙◌, mod-eq_of_lt, add-one, arith, ltb-false, ltb-true, le-ltb, lt-ltb, leb-false, leb-true}
-use native.Mathlib.Nat.{le-max_left, le-max_right, max-le, max-eq_left, max-eq_right}
+use Rattle.std.proofs.Common.{◌≡◌, ℕ, suc, ◌+◌, ◌-◌, ◌%◌, ◌^◌, ◌<◌, ◌≤◌, max, Bool, true, false, ◌||◌, ltb, leb, List, [], ◌∷◌, length, get_or, nat_abs, sym, refl, ap, ◌∙◌, mod-eq_of_lt, add-one, arith, ltb-false, ltb-true, le-ltb, lt-ltb, leb-false}
+use native.Mathlib.Nat.{le-max_left, le-max_right, max-le}
 use lib.Seq.{sets, length-sets}
 use borrow.Author.Tests.{lt-leb}
 use Rattle.lists.specs.Lists.{any}
 use Rattle.lists.proofs.Bools.{or_left, or_right, or_neither}
-use Rattle.lists.proofs.ListLaws.{all_parts, all_both, any_nil, any_hit, any_miss}
+use Rattle.lists.proofs.ListLaws.{all_both, any_nil, any_hit, any_miss}
 use Rattle.format.specs.Coordinates.{XyzRow, values, Factor, Geometry, geometry, exceeds}
-use Rattle.rows.specs.Raised.{raised, six_digits, row_small}
-use Rattle.sorted.specs.GeometryRegion.{largest_with, largest_of, latest_atom, Descends, geometry_region, GeometryFine}
+use Rattle.rows.specs.Raised.{lowered, row_small, xyz_row_of}
+use Rattle.rows.specs.declared.xyz.XyzRow.{XyzRow as Raised}
+use Rattle.rows.proofs.XyzLaws.{lowered_low, lowered_high, raised_lowered}
+use Rattle.sorted.specs.GeometryRegion.{largest_with, largest_of, row_cells, latest_atom, Descends, geometry_region, GeometryFine}
 use Rattle.sorted.proofs.GeometryLaws.{region_nine}
 use Rattle.geometry.specs.Cells.{size_of, largest_by, row_put}
 use Rattle.geometry.specs.SizesTold.{SizesTold}
 
 -- SIZES
-pub size_below : (n : ℕ) → n < 1000000 → 1000000 - n ≡ size_of n
+size_below : (n : ℕ) → n < 1000000 → 1000000 - n ≡ size_of n
 unfolding size_of
 size_below n h = sym (rw (lt-ltb n 1000000 h, size_of))
 
-pub size_above : (n : ℕ) → 1000000 ≤ n → n - 1000000 ≡ size_of n
+size_above : (n : ℕ) → 1000000 ≤ n → n - 1000000 ≡ size_of n
 unfolding size_of
 size_above n h = sym (rw (le-ltb n 1000000 h, size_of))
 
-size_raised : (v : ℤ) → six_digits v ≡ true → size_of (raised v) ≡ nat_abs v
-size_raised (pos n) h = sym (size_above (1000000 + n) (omega arith)) ∙ omega arith
-size_raised (negsuc n) h =
-    let k : suc n ≤ 999999 = leb-true (suc n) 999999 h in
-    let q : 999999 - n < 1000000 = omega arith in
-    sym (size_below (999999 - n) q) ∙ omega arith
+pub size_by : (n : ℕ) → (n - 1000000) + (1000000 - n) ≡ size_of n
+size_by n = go (ltb n 1000000) refl
+  where
+    go : (t : Bool) → ltb n 1000000 ≡ t → (n - 1000000) + (1000000 - n) ≡ size_of n
+    go true e = let h = ltb-true n 1000000 e in omega arith ∙ size_below n h
+    go false e = let h = ltb-false n 1000000 e in omega arith ∙ size_above n h
 
-pub larger_other : (a b : ℕ) → a < b → b ≡ max a b
-larger_other a b h = sym (max-eq_right (omega arith))
+size_is : (n : ℕ) → size_of n ≡ nat_abs (lowered n)
+size_is n = go (ltb n 1000000) refl
+  where
+    go : (t : Bool) → ltb n 1000000 ≡ t → size_of n ≡ nat_abs (lowered n)
+    go true e = let h = ltb-true n 1000000 e in sym (size_below n h) ∙ omega arith ∙ sym (ap nat_abs (lowered_low n h))
+    go false e = let h = ltb-false n 1000000 e in sym (size_above n h) ∙ sym (ap nat_abs (lowered_high n h))
 
-pub larger_one : (a b : ℕ) → b ≤ a → a ≡ max a b
-larger_one a b h = sym (max-eq_left h)
-
-pub largest_by_lem : (x y z m a b c p q r : ℕ) → a ≡ size_of z → p ≡ max a m → b ≡ size_of y → q ≡ max b p → c ≡ size_of x → r ≡ max c q → r ≡ largest_by x y z m
+largest_is : (k : Raised) (m : ℕ) → largest_by k m ≡ largest_with (xyz_row_of k) m
 unfolding largest_by
-largest_by_lem x y z m a b c p q r e f g h k l = cc
-
--- a row's three numbers have at most six digits each
-three_small : (r : XyzRow) → row_small r ≡ true → (six_digits r.x ≡ true) × (six_digits r.y ≡ true) × (six_digits r.z ≡ true)
-three_small r h =
-    let p = all_parts six_digits r.x (r.y ∷ r.z ∷ []) h in
-    let q = all_parts six_digits r.y (r.z ∷ []) p.1 in
-    (p.0, q.0, (all_parts six_digits r.z [] q.1).0)
-
-largest_is : (r : XyzRow) (m : ℕ) → row_small r ≡ true → largest_by (raised r.x) (raised r.y) (raised r.z) m ≡ largest_with r m
-unfolding largest_by
-largest_is r m h = let s = three_small r h in rw (size_raised r.x s.0, size_raised r.y s.1, size_raised r.z s.2) refl
+largest_is k m = rw (size_is k.x, size_is k.y, size_is k.z) refl
 
 -- A FURTHER ATOM is not above some row's exactly where it is not above the latest one's
 pub any_latest : (a : ℕ) (rs : List XyzRow) → 1 ≤ a → Descends rs → any (λ q. leb a q.atom) rs ≡ leb a (latest_atom rs)
@@ -69,26 +61,25 @@ with_xyz g r = geometry g.greatest g.scale (r ∷ g.rows)
 counted : (rs : List XyzRow) → length rs < 4294967295 → (length rs + 1) % 2 ^ 32 ≡ suc (length rs)
 counted rs h = mod-eq_of_lt (omega arith) ∙ add-one (length rs)
 
-module _ (m : ℕ) (f : Factor) (r : XyzRow) (small : row_small r ≡ true) where
-  put_by : (rs : List XyzRow) → length rs < 4294967295 → row_put (geometry_region (geometry m f rs)) r.atom (raised r.x) (raised r.y) (raised r.z) ≡ geometry_region (geometry m f (r ∷ rs))
+cells_are : (k : Raised) → row_cells (xyz_row_of k) ≡ k.atom ∷ k.x ∷ k.y ∷ k.z ∷ []
+cells_are k = rw (raised_lowered k.x, raised_lowered k.y, raised_lowered k.z) refl
+
+module _ (m : ℕ) (f : Factor) (k : Raised) where
+  put_by : (rs : List XyzRow) → length rs < 4294967295 → row_put (geometry_region (geometry m f rs)) k ≡ geometry_region (geometry m f (xyz_row_of k ∷ rs))
   unfolding row_put geometry_region largest_of
-  put_by [] h = rw (largest_is r 0 small) refl
-  put_by (q ∷ rs) h = rw (counted (q ∷ rs) h, largest_is r (largest_of (q ∷ rs)) small) refl
+  put_by [] h = rw (largest_is k 0, cells_are k) refl
+  put_by (q ∷ rs) h = rw (counted (q ∷ rs) h, largest_is k (largest_of (q ∷ rs)), cells_are k) refl
 
-pub put_shown : (g : Geometry) (r : XyzRow) → length g.rows < 4294967295 → row_small r ≡ true
-    → row_put (geometry_region g) r.atom (raised r.x) (raised r.y) (raised r.z) ≡ geometry_region (with_xyz g r)
-put_shown g r few small = put_by g.greatest g.scale r small g.rows few
+pub put_shown : (g : Geometry) (k : Raised) → length g.rows < 4294967295 → row_put (geometry_region g) k ≡ geometry_region (with_xyz g (xyz_row_of k))
+put_shown g k few = put_by g.greatest g.scale k g.rows few
 
-pub put_is : (t : List ℕ) (n m a x y z : ℕ) → n ≡ (get_or t 3 0 + 1) % 2 ^ 32 → m ≡ largest_by x y z (get_or t 4 0) → sets t 3 (n ∷ m ∷ a ∷ x ∷ y ∷ z ∷ []) ≡ row_put t a x y z
+pub put_is : (t : List ℕ) (n m : ℕ) (k : Raised) → n ≡ (get_or t 3 0 + 1) % 2 ^ 32 → m ≡ largest_by k (get_or t 4 0) → sets t 3 (n ∷ m ∷ k.atom ∷ k.x ∷ k.y ∷ k.z ∷ []) ≡ row_put t k
 unfolding row_put
-put_is t n m a x y z e f = rw (e, f) refl
+put_is t n m k e f = rw (e, f) refl
 
-pub put_same : (t s : List ℕ) (a b x u y v z w : ℕ) → t ≡ s → b ≡ a → u ≡ x → v ≡ y → w ≡ z → row_put t a x y z ≡ row_put s b u v w
-put_same t s a b x u y v z w e f g h k = cc
-
-pub put_length : (t : List ℕ) (a x y z : ℕ) → length (row_put t a x y z) ≡ length t
+pub put_length : (t : List ℕ) (k : Raised) → length (row_put t k) ≡ length t
 unfolding row_put
-put_length t a x y z = length-sets t 3 ((get_or t 3 0 + 1) % 2 ^ 32 ∷ largest_by x y z (get_or t 4 0) ∷ a ∷ x ∷ y ∷ z ∷ [])
+put_length t k = length-sets t 3 ((get_or t 3 0 + 1) % 2 ^ 32 ∷ largest_by k (get_or t 4 0) ∷ k.atom ∷ k.x ∷ k.y ∷ k.z ∷ [])
 
 -- it is fine where its atom is listed and above the latest one's
 pub fine_more : (n : ℕ) (g : Geometry) (r : XyzRow) → GeometryFine n g → row_small r ≡ true → latest_atom g.rows < r.atom → r.atom ≤ n → GeometryFine n (with_xyz g r)

@@ -1,7 +1,15 @@
 -- What a line of MAX_XYZ, XYZ_FACTOR or XYZ leaves, by the answer to its value: document 02, L2, "shape, range, atom and order faults as 9, 10, 11 and 13, with a zero
 -- factor as 10". Assumes nothing.
 use Rattle.std.proofs.Common.{◌≡◌, ℕ, ◌<◌, ◌≤◌, true, false, leb, List, [], ◌∷◌, length, get_or, set, sym, refl, ap, ◌∙◌, subst, arith, length-set, eq-eqb, ne_eqb, le-leb}
-use mathlib.Core.Option.{Option, none, some}
+use Rattle.std.specs.declared.option.Option.{Option}
+use Rattle.std.specs.declared.option.Option.TheVariants.{None, Some}
+use Rattle.std.specs.declared.result.Result.{Result}
+use Rattle.std.specs.declared.result.Result.TheVariants.{Ok, Err}
+use Rattle.std.specs.Prelude.{IsErrAnd, MatchResult, ok_or}
+use Rattle.format.specs.Refusals.{number_of}
+use Rattle.format.specs.declared.refusal.Refusal.{Refusal}
+use Rattle.format.specs.declared.refusal.Refusal.TheVariants.{Unlent, Shape, AtomNumber, Clash}
+use Rattle.format.specs.declared.refusal.Refused.{Refused}
 use borrow.Author.Tests.{lt-leb}
 use Rattle.lists.specs.Lists.{is_nil, any}
 use Rattle.lists.proofs.ListLaws.{nil_is}
@@ -9,42 +17,48 @@ use Rattle.lists.proofs.Bools.{torn}
 use Rattle.format.specs.Bytes.{Bytes, within, fields}
 use Rattle.format.specs.Rows.{number}
 use Rattle.format.specs.Labels.{XyzOf, MaxXyz, XyzFactor, XyzRows}
-use Rattle.format.specs.Coordinates.{XyzRow, xyz_shape, factor_shape, Geometry, geometry}
-use Rattle.format.specs.Reading.{State, Go, Stop, atom_count, with_geometry, only_field, greatest_turn, xyz_turn, unless_blank, xyz_line, xyz_value}
+use Rattle.format.specs.Coordinates.{XyzRow, xyz_shape, Factor, factor_shape, Geometry, geometry}
+use Rattle.format.specs.Reading.{State, Turn, Go, Stop, atom_count, with_geometry, only_field, greatest_turn, xyz_turn, unless_blank, xyz_line, xyz_value}
 use Rattle.format.proofs.ByteLaws.{within_is}
-use Rattle.rows.specs.Raised.{raised, XyzIs}
-use Rattle.factor.specs.ShownFactors.{Judged, Passed, Refusal, judged, judged_turn, factor_of, shown_factor, ShowsFactor}
+use Rattle.rows.specs.Raised.{row_small, xyz_row_of}
+use Rattle.rows.specs.declared.xyz.XyzRow.{XyzRow as Raised}
+use Rattle.factor.specs.ShownFactors.{FactorSmall, judged, judged_turn, factor_of}
 use Rattle.factor.specs.declared.Factor.{Factor as Kept}
-use Rattle.factor.specs.declared.FactorAnswer.{FactorAnswer}
-use Rattle.factor.specs.declared.FactorAnswer.TheVariants as F
 use Rattle.factor.proofs.FactorLaws.{turn_judged}
 use Rattle.sorted.specs.GeometryRegion.{latest_atom, geometry_region, GeometryFine}
 use Rattle.geometry.specs.Cells.{row_put}
-use Rattle.geometry.specs.LineNoted.{record_of, ShowsNoted, TurnNoted, LineNoted}
-use Rattle.geometry.specs.declared.line.Noted.{Noted}
-use Rattle.geometry.specs.declared.line.Noted.TheVariants as N
+use Rattle.geometry.specs.LineNoted.{record_of, ShowsTurn, ShowsNoted, TurnNoted, LineNoted}
 use Rattle.sorted.proofs.GeometryLaws.{region_nine, few_rows}
-use Rattle.geometry.proofs.CellLaws.{any_latest, with_xyz, put_shown, put_same, put_length, fine_more}
+use Rattle.geometry.proofs.CellLaws.{any_latest, with_xyz, put_shown, put_length, fine_more}
+
+-- A REFUSAL handed on
+pub handed : {T : Type 0} (r : Result T Refusal) (e : Refusal) → IsErrAnd r (λ y. y ≡ e) → r ≡ Err e
+handed (Ok x) e h = absurd h
+handed (Err y) e h = ap (λ (z : Refusal). Err z) h
+
+pub shape_of : (o : Option ℕ) (e : Refusal) → o ≡ None → Err e ≡ ok_or o Shape → e ≡ Shape
+shape_of None e n q = cc
+shape_of (Some n) e k q = let z : ◌≡◌ {A = ℕ} 0 1 = cc in absurd (omega arith)
 
 -- A TURN shown: a refusal leaves all as it was; what is kept shows a geometry
-module _ (x : XyzOf) (line : Bytes) (place atoms : ℕ) (before : List ℕ) where
-  refused_noted : (n : ℕ) → ((st : State) → before ≡ geometry_region st.geometry → GeometryFine atoms st.geometry → atom_count st ≡ atoms → xyz_value x st (fields line) ≡ Stop n)
-      → TurnNoted x line place atoms before before (N.Refused n place)
-  refused_noted n stops = record {
+module _ (x : XyzOf) (line : Bytes) (atoms : ℕ) (before : List ℕ) where
+  refused_noted : (e : Refusal) → ((st : State) → before ≡ geometry_region st.geometry → GeometryFine atoms st.geometry → atom_count st ≡ atoms → xyz_value x st (fields line) ≡ Stop (number_of e))
+      → TurnNoted x line atoms before before (Err e)
+  refused_noted e stops = record {
     long = refl;
-    shows = λ st e f c. subst (ShowsNoted place atoms before before st (N.Refused n place)) (sym (stops st e f c)) (refl, refl, refl);
+    shows = λ st a f c. subst (ShowsTurn atoms before before st (Err e)) (sym (stops st a f c)) (refl, refl);
   }
 
   kept_noted : (after : List ℕ) → length after ≡ length before → (new : Geometry → Geometry)
       → ((st : State) → before ≡ geometry_region st.geometry → GeometryFine atoms st.geometry → atom_count st ≡ atoms → xyz_value x st (fields line) ≡ Go (with_geometry st (new st.geometry)))
-      → ((g : Geometry) → before ≡ geometry_region g → GeometryFine atoms g → (after ≡ geometry_region (new g)) × GeometryFine atoms (new g)) → TurnNoted x line place atoms before after N.Kept
+      → ((g : Geometry) → before ≡ geometry_region g → GeometryFine atoms g → (after ≡ geometry_region (new g)) × GeometryFine atoms (new g)) → TurnNoted x line atoms before after (Ok tt)
   kept_noted after long new goes shown = record {
     long = long;
-    shows = λ st e f c. subst (ShowsNoted place atoms before after st N.Kept) (sym (goes st e f c)) (record { region = (shown st.geometry e f).0; fine = (shown st.geometry e f).1; only = refl });
+    shows = λ st e f c. subst (ShowsTurn atoms before after st (Ok tt)) (sym (goes st e f c)) (record { region = (shown st.geometry e f).0; fine = (shown st.geometry e f).1; only = refl });
   }
 
 -- MAX_XYZ
-module _ (line : Bytes) (place : ℕ) (before : List ℕ) where
+module _ (line : Bytes) (before : List ℕ) where
   abbrev asked : Option ℕ
   asked = number (only_field (fields line))
 
@@ -52,45 +66,42 @@ module _ (line : Bytes) (place : ℕ) (before : List ℕ) where
   unfolding xyz_value
   greatest_turn_lem st o e = ap (greatest_turn st) e
 
-  pub greatest_wrong : (atoms : ℕ) → asked ≡ none → TurnNoted MaxXyz line place atoms before before (N.Refused 9 place)
+  pub greatest_wrong : (atoms : ℕ) → asked ≡ None → (r : Result Unit Refusal) → r ≡ Err Shape → TurnNoted MaxXyz line atoms before before r
   unfolding greatest_turn
-  greatest_wrong atoms e = refused_noted MaxXyz line place atoms before 9 (λ st a f c. greatest_turn_lem st none e)
+  greatest_wrong atoms e r q = rw q (refused_noted MaxXyz line atoms before Shape (λ st a f c. greatest_turn_lem st None e))
 
-  pub greatest_kept : (atoms n : ℕ) → asked ≡ some n → TurnNoted MaxXyz line place atoms before (set before 0 n) N.Kept
+  pub greatest_kept : (atoms n : ℕ) → asked ≡ Some n → TurnNoted MaxXyz line atoms before (set before 0 n) (Ok tt)
   unfolding greatest_turn geometry_region
   greatest_kept atoms n e =
-      kept_noted MaxXyz line place atoms before (set before 0 n) (length-set before 0 n) (λ g. geometry n g.scale g.rows) (λ st a f c. greatest_turn_lem st (some n) e)
+      kept_noted MaxXyz line atoms before (set before 0 n) (length-set before 0 n) (λ g. geometry n g.scale g.rows) (λ st a f c. greatest_turn_lem st (Some n) e)
       (λ g a f. (ap (λ (t : List ℕ). set t 0 n) a, record { descends = f.descends; highest = f.highest; small = f.small; digits = f.digits; decimals = f.decimals }))
 
 -- XYZ_FACTOR
-module _ (line : Bytes) (place : ℕ) (before : List ℕ) (r : FactorAnswer) (h : ShowsFactor (judged (factor_shape (only_field (fields line)))) r) where
-  factor_turn_lem : (st : State) (j : Judged) → shown_factor r ≡ j → xyz_value XyzFactor st (fields line) ≡ judged_turn st j
+module _ (line : Bytes) (before : List ℕ) where
+  factor_turn_lem : (st : State) (j : Result Factor Refusal) → j ≡ judged (factor_shape (only_field (fields line))) → xyz_value XyzFactor st (fields line) ≡ judged_turn st j
   unfolding xyz_value
-  factor_turn_lem st j e = turn_judged st (factor_shape (only_field (fields line))) ∙ ap (judged_turn st) (sym h.is ∙ e)
+  factor_turn_lem st j e = turn_judged st (factor_shape (only_field (fields line))) ∙ ap (judged_turn st) (sym e)
 
-  pub factor_wrong : (atoms n : ℕ) → r ≡ F.Refused n → TurnNoted XyzFactor line place atoms before before (N.Refused n place)
-  factor_wrong atoms n e = refused_noted XyzFactor line place atoms before n (λ st a f c. factor_turn_lem st (Refusal n) (ap shown_factor e))
+  pub factor_wrong : (atoms : ℕ) (e : Refusal) → Err e ≡ judged (factor_shape (only_field (fields line))) → (r : Result Unit Refusal) → r ≡ Err e → TurnNoted XyzFactor line atoms before before r
+  factor_wrong atoms e j r q = rw q (refused_noted XyzFactor line atoms before e (λ st a f c. factor_turn_lem st (Err e) j))
 
-  module _ (k : Kept) (e : r ≡ F.Scale k) where
-    bounds : (k.digits ≤ 999999999) × (k.decimals ≤ 9)
-    bounds = let s = rw e at h.small in (s.1, s.2)
-
+  module _ (k : Kept) (e : Ok (factor_of k) ≡ judged (factor_shape (only_field (fields line)))) (small : FactorSmall k) where
     abbrev scaled_by : List ℕ
     scaled_by = set (set before 1 k.digits) 2 k.decimals
 
-    pub factor_kept : (atoms : ℕ) → TurnNoted XyzFactor line place atoms before scaled_by N.Kept
+    pub factor_kept : (atoms : ℕ) → TurnNoted XyzFactor line atoms before scaled_by (Ok tt)
     unfolding geometry_region
     factor_kept atoms =
-        kept_noted XyzFactor line place atoms before scaled_by (length-set (set before 1 k.digits) 2 k.decimals ∙ length-set before 1 k.digits) (λ g. geometry g.greatest (factor_of k) g.rows)
-        (λ st a f c. factor_turn_lem st (Passed (factor_of k)) (ap shown_factor e))
-        (λ g a f. (ap (λ (t : List ℕ). set (set t 1 k.digits) 2 k.decimals) a, record { descends = f.descends; highest = f.highest; small = f.small; digits = bounds.0; decimals = bounds.1 }))
+        kept_noted XyzFactor line atoms before scaled_by (length-set (set before 1 k.digits) 2 k.decimals ∙ length-set before 1 k.digits) (λ g. geometry g.greatest (factor_of k) g.rows)
+        (λ st a f c. factor_turn_lem st (Ok (factor_of k)) e)
+        (λ g a f. (ap (λ (t : List ℕ). set (set t 1 k.digits) 2 k.decimals) a, record { descends = f.descends; highest = f.highest; small = f.small; digits = small.1; decimals = small.2 }))
 
 -- XYZ
-module _ (line : Bytes) (place atoms : ℕ) (before : List ℕ) where
-  pub row_blank : is_nil (fields line) ≡ true → TurnNoted XyzRows line place atoms before before N.Kept
+module _ (line : Bytes) (atoms : ℕ) (before : List ℕ) where
+  pub row_blank : is_nil (fields line) ≡ true → TurnNoted XyzRows line atoms before before (Ok tt)
   unfolding xyz_value xyz_line
   row_blank e =
-      kept_noted XyzRows line place atoms before before refl (λ g. g) (λ st a f c. ap (λ (fs : List Bytes). unless_blank st fs (xyz_turn st (xyz_shape fs))) (nil_is (fields line) e))
+      kept_noted XyzRows line atoms before before refl (λ g. g) (λ st a f c. ap (λ (fs : List Bytes). unless_blank st fs (xyz_turn st (xyz_shape fs))) (nil_is (fields line) e))
       (λ g a f. (a, f))
 
   module _ (inked : is_nil (fields line) ≡ false) where
@@ -102,27 +113,30 @@ module _ (line : Bytes) (place atoms : ℕ) (before : List ℕ) where
         go [] n = torn true refl n
         go (w ∷ ws) n = refl
 
-    pub row_wrong : xyz_shape (fields line) ≡ none → TurnNoted XyzRows line place atoms before before (N.Refused 9 place)
+    pub row_wrong : xyz_shape (fields line) ≡ None → (r : Result Unit Refusal) → r ≡ Err Shape → TurnNoted XyzRows line atoms before before r
     unfolding xyz_turn
-    row_wrong e = refused_noted XyzRows line place atoms before 9 (λ st a f c. row_turn_lem st none e)
+    row_wrong e r q = rw q (refused_noted XyzRows line atoms before Shape (λ st a f c. row_turn_lem st None e))
 
-    module _ (a x y z : ℕ) (is : XyzIs (xyz_shape (fields line)) a x y z) where
+    module _ (k : Raised) (is : xyz_shape (fields line) ≡ Some (xyz_row_of k)) (small : row_small (xyz_row_of k) ≡ true) where
       abbrev row : XyzRow
-      row = is.row
+      row = xyz_row_of k
 
-      unlisted : (st : State) → atom_count st ≡ atoms → within 1 atoms a ≡ false → xyz_turn st (some row) ≡ Stop 11
+      abbrev a : ℕ
+      a = k.atom
+
+      unlisted : (st : State) → atom_count st ≡ atoms → within 1 atoms a ≡ false → xyz_turn st (Some row) ≡ Stop 11
       unfolding xyz_turn
-      unlisted st c w = let q : within 1 (atom_count st) row.atom ≡ false = ap (λ (n : ℕ). within 1 n row.atom) c ∙ ap (within 1 atoms) is.atom ∙ w in rw q refl
+      unlisted st c w = let q : within 1 (atom_count st) row.atom ≡ false = ap (λ (n : ℕ). within 1 n row.atom) c ∙ w in rw q refl
 
-      pub row_unlisted : within 1 atoms a ≡ false → TurnNoted XyzRows line place atoms before before (N.Refused 11 place)
-      row_unlisted w = refused_noted XyzRows line place atoms before 11 (λ st e f c. row_turn_lem st (some row) is.is ∙ unlisted st c w)
+      pub row_unlisted : within 1 atoms a ≡ false → TurnNoted XyzRows line atoms before before (Err AtomNumber)
+      row_unlisted w = refused_noted XyzRows line atoms before AtomNumber (λ st e f c. row_turn_lem st (Some row) is ∙ unlisted st c w)
 
       module _ (low : 1 ≤ a) (high : a ≤ atoms) where
         listed : (st : State) → atom_count st ≡ atoms → within 1 (atom_count st) row.atom ≡ true
-        listed st c = ap (λ (n : ℕ). within 1 n row.atom) c ∙ ap (within 1 atoms) is.atom ∙ within_is 1 atoms a low high
+        listed st c = ap (λ (n : ℕ). within 1 n row.atom) c ∙ within_is 1 atoms a low high
 
         latest_is : (st : State) → GeometryFine atoms st.geometry → any (λ q. leb row.atom q.atom) st.geometry.rows ≡ leb a (latest_atom st.geometry.rows)
-        latest_is st f = ap (λ (n : ℕ). any (λ q. leb n q.atom) st.geometry.rows) is.atom ∙ any_latest a st.geometry.rows low f.descends
+        latest_is st f = any_latest a st.geometry.rows low f.descends
 
         -- the region's cell is the latest row's atom
         cell_is : (g : Geometry) → before ≡ geometry_region g → get_or before 5 0 ≡ latest_atom g.rows
@@ -133,17 +147,17 @@ module _ (line : Bytes) (place atoms : ℕ) (before : List ℕ) where
             go [] = refl
             go (r ∷ rs) = refl
 
-        late : (st : State) → before ≡ geometry_region st.geometry → GeometryFine atoms st.geometry → atom_count st ≡ atoms → a ≤ get_or before 5 0 → xyz_turn st (some row) ≡ Stop 13
+        late : (st : State) → before ≡ geometry_region st.geometry → GeometryFine atoms st.geometry → atom_count st ≡ atoms → a ≤ get_or before 5 0 → xyz_turn st (Some row) ≡ Stop 13
         unfolding xyz_turn
         late st e f c h =
             let q : any (λ q. leb row.atom q.atom) st.geometry.rows ≡ true = latest_is st f ∙ le-leb a (latest_atom st.geometry.rows) (omega (arith, cell_is st.geometry e)) in
             rw (listed st c, q) refl
 
-        pub row_late : a ≤ get_or before 5 0 → TurnNoted XyzRows line place atoms before before (N.Refused 13 place)
-        row_late h = refused_noted XyzRows line place atoms before 13 (λ st e f c. row_turn_lem st (some row) is.is ∙ late st e f c h)
+        pub row_late : a ≤ get_or before 5 0 → TurnNoted XyzRows line atoms before before (Err Clash)
+        row_late h = refused_noted XyzRows line atoms before Clash (λ st e f c. row_turn_lem st (Some row) is ∙ late st e f c h)
 
         joined : (st : State) → before ≡ geometry_region st.geometry → GeometryFine atoms st.geometry → atom_count st ≡ atoms → get_or before 5 0 < a
-            → xyz_turn st (some row) ≡ Go (with_geometry st (with_xyz st.geometry row))
+            → xyz_turn st (Some row) ≡ Go (with_geometry st (with_xyz st.geometry row))
         unfolding xyz_turn
         joined st e f c h =
             let q : any (λ q. leb row.atom q.atom) st.geometry.rows ≡ false = latest_is st f ∙ lt-leb a (latest_atom st.geometry.rows) (omega (arith, cell_is st.geometry e)) in
@@ -152,30 +166,50 @@ module _ (line : Bytes) (place atoms : ℕ) (before : List ℕ) where
         pub row_goes : (st : State) → before ≡ geometry_region st.geometry → GeometryFine atoms st.geometry → atom_count st ≡ atoms → get_or before 5 0 < a
             → xyz_line st (fields line) ≡ Go (with_geometry st (with_xyz st.geometry row))
         unfolding xyz_value
-        row_goes st e f c h = row_turn_lem st (some row) is.is ∙ joined st e f c h
+        row_goes st e f c h = row_turn_lem st (Some row) is ∙ joined st e f c h
 
         -- the region with the row put, for every geometry that it shows
         pub put_more : (g : Geometry) → before ≡ geometry_region g → GeometryFine atoms g → get_or before 5 0 < a → a < 4294967296
-            → (row_put before a x y z ≡ geometry_region (with_xyz g row)) × GeometryFine atoms (with_xyz g row)
-        put_more g e f h small =
-            let above : latest_atom g.rows < a = omega (arith, cell_is g e) in (
-              put_same before (geometry_region g) a row.atom x (raised row.x) y (raised row.y) z (raised row.z) e is.atom is.first is.second is.third
-                  ∙ put_shown g row (omega (arith, few_rows g.rows f.descends)) is.small,
-              fine_more atoms g row f is.small (omega (arith, is.atom)) (omega (arith, is.atom)),
-            )
+            → (row_put before k ≡ geometry_region (with_xyz g row)) × GeometryFine atoms (with_xyz g row)
+        put_more g e f h less =
+            let above : latest_atom g.rows < a = omega (arith, cell_is g e) in
+            (ap (λ (t : List ℕ). row_put t k) e ∙ put_shown g k (omega (arith, few_rows g.rows f.descends)), fine_more atoms g row f small above high)
 
-        pub row_kept : (after : List ℕ) → after ≡ row_put before a x y z → get_or before 5 0 < a → a < 4294967296 → TurnNoted XyzRows line place atoms before after N.Kept
-        row_kept after p h small =
-            kept_noted XyzRows line place atoms before after (ap length p ∙ put_length before a x y z) (λ g. with_xyz g row) (λ st e f c. row_turn_lem st (some row) is.is ∙ joined st e f c h)
-            (λ g e f. (p ∙ (put_more g e f h small).0, (put_more g e f h small).1))
+        pub row_kept : (after : List ℕ) → after ≡ row_put before k → get_or before 5 0 < a → a < 4294967296 → TurnNoted XyzRows line atoms before after (Ok tt)
+        row_kept after p h less =
+            kept_noted XyzRows line atoms before after (ap length p ∙ put_length before k) (λ g. with_xyz g row) (λ st e f c. row_turn_lem st (Some row) is ∙ joined st e f c h)
+            (λ g e f. (p ∙ (put_more g e f h less).0, (put_more g e f h less).1))
 
--- BY THE CODE
-pub line_other : (line : Bytes) (place code atoms : ℕ) (before : List ℕ) → (length before ≡ 9 → ⊥) → LineNoted line place code atoms before before (N.Refused 0 place)
-line_other line place code atoms before h = record { long = refl; other = λ o. (refl, refl); shows = λ st e f c. absurd (h (ap length e ∙ region_nine st.geometry)) }
+-- BY THE CODE, and with the line's place
+abbrev pub placed_at : (place : ℕ) → Result Unit Refusal → Result Unit Refused
+placed_at place (Ok u) = Ok u
+placed_at place (Err e) = Err (record { refusal = e; place = place })
 
-pub line_by : (line : Bytes) (place code atoms : ℕ) (before after : List ℕ) (r : Noted) → length before ≡ 9 → (x : XyzOf) → record_of code ≡ x → TurnNoted x line place atoms before after r
-    → LineNoted line place code atoms before after r
-line_by line place code atoms before after r nine x e h = record { long = h.long; other = λ o. absurd (o nine); shows = λ st a f c. rw e (h.shows st a f c) }
+pub placed_by : (P : Refusal → Refused → Type 0) (place : ℕ) (r : Result Unit Refusal) (s : Result Unit Refused) → MatchResult r (λ x. s ≡ Ok x) (λ e. IsErrAnd s (P e))
+    → ((e : Refusal) (q : Refused) → P e q → q ≡ record { refusal = e; place = place }) → s ≡ placed_at place r
+placed_by P place (Ok u) s h f = h
+placed_by P place (Err e) (Ok u) h f = absurd h
+placed_by P place (Err e) (Err q) h f = ap (λ (z : Refused). Err z) (f e q h)
+
+turn_placed : (place atoms : ℕ) (before after : List ℕ) (st : State) (r : Result Unit Refusal) (t : Turn) → ShowsTurn atoms before after st r t → ShowsNoted place atoms before after st (placed_at place r) t
+turn_placed place atoms before after st (Ok u) (Go new) h = h
+turn_placed place atoms before after st (Ok u) (Stop n) h = h
+turn_placed place atoms before after st (Err e) (Go new) h = h
+turn_placed place atoms before after st (Err e) (Stop n) h = (h.0, refl, h.1)
+
+pub line_other : (line : Bytes) (place code atoms : ℕ) (before : List ℕ) → (length before ≡ 9 → ⊥) → (r : Refused) → r ≡ record { refusal = Unlent; place = place } → LineNoted line place code atoms before before (Err r)
+line_other line place code atoms before h r q = record { long = refl; other = λ o. (ap (λ (z : Refused). Err z) q, refl); shows = λ st e f c. absurd (h (ap length e ∙ region_nine st.geometry)) }
+
+pub line_by : (line : Bytes) (place code atoms : ℕ) (before after : List ℕ) (r : Result Unit Refusal) → length before ≡ 9 → TurnNoted (record_of code) line atoms before after r
+    → (s : Result Unit Refused) → s ≡ placed_at place r → LineNoted line place code atoms before after s
+line_by line place code atoms before after r nine h s q = rw q (record {
+  long = h.long;
+  other = λ o. absurd (o nine);
+  shows = λ st a f c. turn_placed place atoms before after st r (xyz_value (record_of code) st (fields line)) (h.shows st a f c);
+})
+
+pub turn_by : (x y : XyzOf) (line : Bytes) (atoms : ℕ) (before after : List ℕ) (r : Result Unit Refusal) → y ≡ x → TurnNoted x line atoms before after r → TurnNoted y line atoms before after r
+turn_by x y line atoms before after r e h = rw e h
 
 pub code_greatest : (code : ℕ) → code ≡ 14 → record_of code ≡ MaxXyz
 code_greatest code e = rw (eq-eqb code 14 e, record_of)

@@ -1,8 +1,8 @@
 // The latest row of XYZ in the store of rows: document 02, L2 ("in any order with the other shell labels": the factor may stand after the rows, so they are stored).
 ghost use Rattle.geometry.specs.LatestStored.{LatestStored};
 
-use crate::put::wide;
 use coordinates::kept::keep;
+use rows::xyz::XyzRow;
 use sorted::scratch::Scratch;
 
 // The region's latest row into the store, behind the rows before it; nothing where there is none. A store without room for it is untouched.
@@ -12,17 +12,15 @@ pub fn keep_latest(region: &[u32], store: &mut [i32])
     if region.len() != Scratch::GEOMETRY {
         return;
     }
-    let rows = wide(region[Scratch::ROWS]);
+    let rows = region[Scratch::ROWS] as usize;
     if rows < 1 {
         return;
     }
-    let at = Scratch::LATEST;
-    keep(
-        store,
-        rows - 1,
-        region[at],
-        region[at + 1],
-        region[at + 2],
-        region[at + 3],
-    );
+    let row = XyzRow {
+        atom: region[Scratch::LATEST],
+        x: region[Scratch::LATEST + 1],
+        y: region[Scratch::LATEST + 2],
+        z: region[Scratch::LATEST + 3],
+    };
+    keep(store, rows - 1, row);
 }

@@ -2,9 +2,9 @@
 // row does not join, and the ordinary step judges that line.
 ghost use Rattle.geometry.specs.XyzRuns.{XyzRan};
 
-use crate::put::{put_row, wide};
+use crate::put::put_row;
 use coordinates::kept::keep;
-use quick::xyz::{QuickXyz, quick_xyz};
+use quick::xyz::quick_xyz;
 use sorted::scratch::Scratch;
 
 // The place of the first line from `at` on that was not gathered, `atoms` atoms listed. Each row goes into the region and into the store. An atom that is not listed, or
@@ -22,20 +22,14 @@ pub fn xyz_run(
     if region.len() != Scratch::GEOMETRY {
         return place;
     }
-    while place < block.len() {
-        let QuickXyz::Values(atom, x, y, z, next) = quick_xyz(block, place) else {
-            return place;
-        };
-        if atoms < atom as usize {
-            return place;
+    while let Some(quick) = quick_xyz(block, place) {
+        let row = quick.row;
+        if atoms < row.atom as usize || row.atom <= region[Scratch::LATEST] {
+            break;
         }
-        if atom <= region[Scratch::LATEST] {
-            return place;
-        }
-        let rows = wide(region[Scratch::ROWS]);
-        keep(store, rows, atom, x, y, z);
-        put_row(region, atom, x, y, z);
-        place = next;
+        keep(store, region[Scratch::ROWS] as usize, row);
+        put_row(region, row);
+        place = quick.next;
     }
     place
 }

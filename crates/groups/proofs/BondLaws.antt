@@ -105,7 +105,7 @@ module _ (t : List ℤ) (bonds : ℕ) where
   bonds_empty = let q : bonds - bonds ≡ 0 = omega arith in ap (λ (m : ℕ). rows_from 3 bond_at m (drop (1296 + 3 * bonds) t)) q ∙ rows_zero 3 bond_at (drop (1296 + 3 * bonds) t)
 
   pub bonds_split : (i : ℕ) → 0 < i → i ≤ bonds → bonds_from t bonds (i - 1) ≡ bond_at (drop (1296 + 3 * (i - 1)) t) ∷ bonds_from t bonds i
-  bonds_split i some le =
+  bonds_split i Some le =
       let q : bonds - (i - 1) ≡ suc (bonds - i) = omega arith in
       let r : 1296 + 3 * (i - 1) + 3 ≡ 1296 + 3 * i = omega arith in
       let u : List ℤ = drop (1296 + 3 * (i - 1)) t in
@@ -121,12 +121,12 @@ module _ (t : List ℤ) (bonds : ℕ) where
   -- one bond more joins
   pub bonds_turn : (n i place : ℕ) (ps qs : List ℕ) → 0 < i → i ≤ bonds → place ≡ 1296 + 3 * (i - 1) → (AllNamed n (bonds_from t bonds i) → Leads (lowest n (bonds_from t bonds i)) ps)
       → ((ls : List ℕ) → Leads ls ps → Named n (bond_at (drop place t)) → Leads (joined_by (bond_at (drop place t)) ls) qs) → AllNamed n (bonds_from t bonds (i - 1)) → Leads (lowest n (bonds_from t bonds (i - 1))) qs
-  bonds_turn n i place ps qs some le e before turn named =
+  bonds_turn n i place ps qs Some le e before turn named =
       let r : Row = bond_at (drop (1296 + 3 * (i - 1)) t) in
-      let both = all_parts (λ (x : Row). all (within 1 n) x.atoms) r (bonds_from t bonds i) (ap (all (λ (x : Row). all (within 1 n) x.atoms)) (sym (bonds_split i some le)) ∙ named) in
+      let both = all_parts (λ (x : Row). all (within 1 n) x.atoms) r (bonds_from t bonds i) (ap (all (λ (x : Row). all (within 1 n) x.atoms)) (sym (bonds_split i Some le)) ∙ named) in
       let step : Leads (joined_by r (lowest n (bonds_from t bonds i))) qs =
       subst (λ (m : ℕ). (ls : List ℕ) → Leads ls ps → Named n (bond_at (drop m t)) → Leads (joined_by (bond_at (drop m t)) ls) qs) e turn (lowest n (bonds_from t bonds i)) (before both.1) both.0 in
-      subst (λ (xs : List ℕ). Leads xs qs) (sym (ap (lowest n) (bonds_split i some le) ∙ lowest_cons n r (bonds_from t bonds i))) step
+      subst (λ (xs : List ℕ). Leads xs qs) (sym (ap (lowest n) (bonds_split i Some le) ∙ lowest_cons n r (bonds_from t bonds i))) step
 
 -- ALL BONDS, the last one first
 module _ (t : List ℤ) (bonds : ℕ) (ps₀ : List ℕ) where
@@ -136,14 +136,14 @@ module _ (t : List ℤ) (bonds : ℕ) (ps₀ : List ℕ) where
 
   pub joins_more : (i place : ℕ) (ps qs : List ℕ) → 0 < i → i ≤ bonds → bonds ≤ 512 → place ≡ row_place Bonds (i - 1) → JoinsAll ps₀ (bonds_from t bonds i) ps → JoinsBond ps (bond_at (drop place t)) qs
       → JoinsAll ps₀ (bonds_from t bonds (i - 1)) qs
-  joins_more i place ps qs some le most e before turn = (
+  joins_more i place ps qs Some le most e before turn = (
     (turn.0.0 ∙ before.0.0, turn.0.1),
-    bonds_turn t bonds (length ps₀) i place ps qs some le (e ∙ bond_place (i - 1) (omega arith)) before.1
+    bonds_turn t bonds (length ps₀) i place ps qs Some le (e ∙ bond_place (i - 1) (omega arith)) before.1
         (λ ls leads named. turn.1 ls leads (subst (λ (m : ℕ). Named m (bond_at (drop place t))) (sym before.0.0) named)),
   )
 
   pub place_within : (i place : ℕ) → 0 < i → i ≤ bonds → bonds ≤ 512 → place ≡ row_place Bonds (i - 1) → place ≤ 3856
-  place_within i place some le most e = omega (arith, e, bond_place (i - 1) (omega arith))
+  place_within i place Some le most e = omega (arith, e, bond_place (i - 1) (omega arith))
 
   pub joins_all : (i : ℕ) (ps : List ℕ) → i ≤ 0 → JoinsAll ps₀ (bonds_from t bonds i) ps → JoinsAll ps₀ (rows_from 3 bond_at bonds (drop 1296 t)) ps
   joins_all i ps h j = subst (λ (rs : List Row). JoinsAll ps₀ rs ps) (bonds_all t bonds i h) j

@@ -6,12 +6,11 @@ use mathlib.Core.Bool.{Bool, true, false, ◌&&◌}
 use mathlib.Core.List.{List, [], ◌∷◌, map}
 use native.Mathlib.Omega.{arith}
 use lib.ListN.{length, get_or, set, take, drop, replicate, length-set, length-replicate, length-drop}
-use lib.Seq.{ext_get_or, get_or-set_same, get_or-set_other, get_or-drop, drop-drop}
+use lib.Seq.{ext_get_or, get_or-set_other, get_or-drop, drop-drop}
 use lib.IntN.{ℤ, pos, negsuc, nat_abs}
-use lib.Dec.{T, eqb, ltb}
-use lib.Signed.{lt_z, mag, non_neg}
-use mir.Syntax.{w32, w64}
-use mir.Val.{Fits}
+use lib.Dec.{eqb, ltb}
+use lib.Signed.{lt_z, mag}
+use mir.Val.{bool_byte}
 use borrow.Author.Tests.{eqb-true, eqb-false, ltb-true, lt-ltb, le-ltb}
 use Rattle.lists.specs.Lists.{share, all, rows_from}
 use Rattle.lists.proofs.Bools.{torn, and_parts, and_both, and_left_false, and_right_false}
@@ -49,9 +48,6 @@ module _ (s k : ℤ) (ms : List ℕ) (b : mag k < 2 ^ 31) where
     kind_plain : Plain 1 k
     kind_plain = not_below_limit 1 k b e
 
-    pub kind_fits : T (non_neg (machine k)) × Fits w32 (nat_abs (machine k))
-    kind_fits = (kind_plain.unsigned, record { fits = omega (arith, kind_plain.same, kind_plain.small) })
-
     pub kind_weak : 4 < nat_abs (machine k) → ms ≡ marked_by s k ms
     kind_weak h = unmarked s k ms (and_left_false (ranging 1 4 k) _ (ranging_plain 1 4 k kind_plain.is ∙ within_high 1 4 (nat_abs k) (omega (arith, h, kind_plain.same))))
 
@@ -62,9 +58,6 @@ module _ (s k : ℤ) (ms : List ℕ) (b : mag k < 2 ^ 31) where
       module _ (g : lt_z (machine s) (pos 2) ≡ false) where
         second_plain : Plain 2 s
         second_plain = not_below_limit 2 s c g
-
-        pub second_fits : T (non_neg (machine s)) × Fits w64 (nat_abs (machine s))
-        second_fits = (second_plain.unsigned, record { fits = omega (arith, second_plain.same, second_plain.small) })
 
         pub second_some : 1 ≤ nat_abs (machine s)
         second_some = omega (arith, second_plain.same, second_plain.low)
@@ -95,7 +88,7 @@ module _ (rows : List ℤ) (bonds : ℕ) (ms₀ : List ℕ) where
   marks_none = let q : bonds - bonds ≡ 0 = omega arith in sym (ap (λ (n : ℕ). marked n (drop (3 * bonds) rows) ms₀) q ∙ marked_none (drop (3 * bonds) rows) ms₀)
 
   pub marks_more : (i place : ℕ) (ms qs : List ℕ) → 0 < i → i ≤ bonds → place ≡ 3 * (i - 1) → ms ≡ marked_from i → qs ≡ marked_by (get_or rows (place + 1) (pos 0)) (get_or rows (place + 2) (pos 0)) ms → qs ≡ marked_from (i - 1)
-  marks_more i place ms qs some le e before turn =
+  marks_more i place ms qs Some le e before turn =
       let u : List ℤ = drop (3 * (i - 1)) rows in
       let q : bonds - (i - 1) ≡ suc (bonds - i) = omega arith in
       let r : 3 * (i - 1) + 3 ≡ 3 * i = omega arith in
@@ -103,23 +96,6 @@ module _ (rows : List ℤ) (bonds : ℕ) (ms₀ : List ℕ) where
       let next : marked_from i ≡ marked (bonds - i) (drop 3 u) ms₀ = sym (ap (λ (l : List ℤ). marked (bonds - i) l ms₀) (drop-drop 3 (3 * (i - 1)) rows ∙ ap (λ (k : ℕ). drop k rows) r)) in
       turn ∙ ap₂ (λ (s k : ℤ). marked_by s k ms) (at 1) (at 2) ∙ ap (marked_by (get_or u 1 (pos 0)) (get_or u 2 (pos 0))) (before ∙ next)
       ∙ sym (ap (λ (n : ℕ). marked n u ms₀) q ∙ marked_next (bonds - i) u ms₀)
-
-  pub marks_all : (i : ℕ) (ms : List ℕ) → i ≤ 0 → ms ≡ marked_from i → ms ≡ marked bonds rows ms₀
-  marks_all i ms h e =
-      let z : i ≡ 0 = omega arith in
-      let q : bonds - 0 ≡ bonds = omega arith in
-      e ∙ ap marked_from z ∙ ap (λ (n : ℕ). marked n rows ms₀) q
-
--- MARKS CLEARED up to i, and all
-pub clear_more : (ms : List ℕ) (i : ℕ) → i < length ms → ((j : ℕ) → j < i → get_or ms j 0 ≡ 0) → (j : ℕ) → j < i + 1 → get_or (set ms i 0) j 0 ≡ 0
-clear_more ms i h before j b = go (eqb j i) refl
-  where
-    go : (t : Bool) → eqb j i ≡ t → get_or (set ms i 0) j 0 ≡ 0
-    go true g = ap (λ (m : ℕ). get_or (set ms i 0) m 0) (eqb-true j i g) ∙ get_or-set_same ms i 0 0 h
-    go false g = get_or-set_other ms i j 0 0 (eqb-false j i g) ∙ before j (omega (arith, b, eqb-false j i g))
-
-pub clear_all : (ms : List ℕ) (i n : ℕ) → length ms ≤ i → length ms ≡ n → ((j : ℕ) → j < i → get_or ms j 0 ≡ 0) → ms ≡ replicate n 0
-clear_all ms i n h e each = ext_get_or 0 ms (replicate n 0) (e ∙ sym (length-replicate n 0)) (λ j b. each j (omega arith) ∙ sym (noughts_at n j))
 
 -- HOW MANY ARE MARKED
 ones_nil : ones [] ≡ 0
@@ -154,15 +130,31 @@ all_but_first : (ms : List ℕ) → get_or ms 0 0 ≡ 0 → length ms ≤ ones m
 all_but_first [] e h = all_nil (ltb 0)
 all_but_first (m ∷ ms) e h = ones_full ms (omega (arith, h, ones_free m ms e))
 
-pub ones_new : (ms : List ℕ) (i : ℕ) → i < length ms → get_or ms i 0 ≡ 0 → ones (set ms i 1) ≡ 1 + ones ms
+ones_new : (ms : List ℕ) (i : ℕ) → i < length ms → get_or ms i 0 ≡ 0 → ones (set ms i 1) ≡ 1 + ones ms
 ones_new [] i h e = absurd (omega (arith, h))
 ones_new (m ∷ ms) zero h e = omega (arith, ones_mark 1 ms (omega arith), ones_free m ms e)
 ones_new (m ∷ ms) (suc i) h e = omega (arith, ones_cons m (set ms i 1), ones_cons m ms, ones_new ms i (omega (arith, h)) e)
 
-pub ones_again : (ms : List ℕ) (i : ℕ) → i < length ms → (get_or ms i 0 ≡ 0 → ⊥) → ones (set ms i 1) ≡ 0 + ones ms
+ones_again : (ms : List ℕ) (i : ℕ) → i < length ms → (get_or ms i 0 ≡ 0 → ⊥) → ones (set ms i 1) ≡ 0 + ones ms
 ones_again [] i h e = absurd (omega (arith, h))
 ones_again (m ∷ ms) zero h e = omega (arith, ones_mark 1 ms (omega arith), ones_mark m ms (omega (arith, e)))
 ones_again (m ∷ ms) (suc i) h e = omega (arith, ones_cons m (set ms i 1), ones_cons m ms, ones_again ms i (omega (arith, h)) e)
+
+pub ones_set : (ms : List ℕ) (i : ℕ) → i < length ms → ones (set ms i 1) ≡ share (eqb (get_or ms i 0) 0) 1 + ones ms
+ones_set ms i h = by (eqb (get_or ms i 0) 0) refl
+  where
+    by : (b : Bool) → eqb (get_or ms i 0) 0 ≡ b → ones (set ms i 1) ≡ share b 1 + ones ms
+    by true e = ones_new ms i h (eqb-true (get_or ms i 0) 0 e)
+    by false e = ones_again ms i h (eqb-false (get_or ms i 0) 0 e)
+
+-- told by a flag
+pub flag_is : (b : Bool) → bool_byte b ≡ share b 1
+flag_is true = refl
+flag_is false = refl
+
+pub flag_most : (b : Bool) → bool_byte b ≤ 1
+flag_most true = omega arith
+flag_most false = omega arith
 
 -- AN ATOM THAT IS MARKED has a lower one of its group
 pub record Lower (ls : List ℕ) (j : ℕ) : Type 0 where
@@ -313,9 +305,6 @@ module _ (n m : ℕ) (t : List ℤ) (few : m ≤ 512) (long : 3856 ≤ length t)
 
   rows_are : rows_from 3 bond_at m u ≡ rows_from 3 bond_at m (drop 1296 t)
   rows_are = rows_cut m (2832 - 1296) (drop 1296 t) (omega arith) (omega (arith, length-drop 1296 t))
-
-  pub several : (length ys ≡ n) × OneGroup n (rows_from 3 bond_at m (drop 1296 t)) false ys
-  several = (as_long, λ e. torn true refl (sym e))
 
   pub one : (count : ℕ) (zs : List ℕ) → ones ys ≡ count + ones xs → length ys ≤ count + 1 → zs ≡ replicate (length ys) 0 → (length zs ≡ n) × OneGroup n (rows_from 3 bond_at m (drop 1296 t)) true zs
   one count zs e f g =

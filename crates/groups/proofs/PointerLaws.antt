@@ -117,14 +117,7 @@ module _ (n : ℕ) where
     own = λ i h e. let b : i < n = omega (arith, h, count_long 0 n) in count_at_lem 1 n i b ∙ omega arith;
   }
 
--- numbered up to i
-pub alone_more : (ps : List ℕ) (i v : ℕ) → i < length ps → v ≡ i → ((j : ℕ) → j < i → get_or ps j 0 ≡ j) → (j : ℕ) → j < i + 1 → get_or (set ps i v) j 0 ≡ j
-alone_more ps i v h e before j b = by (eqb j i) refl
-  where
-    by : (t : Bool) → eqb j i ≡ t → get_or (set ps i v) j 0 ≡ j
-    by true g = let q : j ≡ i = eqb-true j i g in ap (λ (m : ℕ). get_or (set ps i v) m 0) q ∙ get_or-set_same ps i v 0 h ∙ e ∙ sym q
-    by false g = get_or-set_other ps i j v 0 (eqb-false j i g) ∙ before j (omega (arith, b, eqb-false j i g))
-
+-- numbered in order
 pub alone_all : (ps : List ℕ) (i n : ℕ) → length ps ≤ i → length ps ≡ n → ((j : ℕ) → j < i → get_or ps j 0 ≡ j) → ps ≡ count_up 0 n
 alone_all ps i n h e each = ext_get_or 0 ps (count_up 0 n) (e ∙ sym (count_long 0 n)) (λ j b. each j (omega arith) ∙ sym (count_at_lem 0 n j (omega arith) ∙ omega arith))
 
@@ -133,9 +126,6 @@ pub record Settled (ps₀ : List ℕ) (j : ℕ) (ps : List ℕ) : Type 0 where
   pub long : length ps ≡ length ps₀
   pub done : (ls : List ℕ) → Leads ls ps₀ → (i : ℕ) → i < j → suc (get_or ps i 0) ≡ get_or ls i 0
   pub rest : (i : ℕ) → j ≤ i → get_or ps i 0 ≡ get_or ps₀ i 0
-
-pub settled_none : (ps : List ℕ) → Settled ps 0 ps
-settled_none ps = record { long = refl; done = λ ls leads i h. absurd (omega arith); rest = λ i h. refl }
 
 module _ (ps₀ ps : List ℕ) (pointing : Pointing ps₀) (j : ℕ) (h : j < length ps) (s : Settled ps₀ j ps) (up v : ℕ) (e : up ≡ get_or ps j 0) (f : v ≡ get_or ps up 0) where
   own_pointer : up ≡ get_or ps₀ j 0
@@ -194,9 +184,6 @@ pub record Following (ps₀ : List ℕ) (atom : ℕ) (ps : List ℕ) (at up : �
   pub in_it : at < length ps
   pub here : up ≡ get_or ps at 0
   pub leads : (ls : List ℕ) → Leads ls ps₀ → Leads ls ps × (get_or ls at 0 ≡ get_or ls atom 0)
-
-pub follow_start : (ps : List ℕ) (atom up : ℕ) → Pointing ps → atom < length ps → up ≡ get_or ps atom 0 → Following ps atom ps atom up
-follow_start ps atom up pointing h e = record { long = refl; pointing = pointing; in_it = h; here = e; leads = λ ls leads. (leads, refl) }
 
 module _ (ps₀ : List ℕ) (atom : ℕ) (ps : List ℕ) (at up : ℕ) (f : Following ps₀ atom ps at up) where
   module _ (on : up < at) (over : ℕ) (e : over ≡ get_or ps up 0) where

@@ -14,6 +14,7 @@ use format::Table;
 mod marks; // marks.rt: whether all atoms are of one group
 mod pointers; // pointers.rt: the lowest atom of each group, where there are several
 
+// A kind is a number, as it stands in the table.
 // The highest kind that joins, Q: "`A` not counting".
 const LAST_JOINING: u32 = 4;
 

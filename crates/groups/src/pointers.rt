@@ -1,5 +1,6 @@
 // Each atom points, by index, to an atom of its group that is not higher, the lowest to itself: document 02, L1, "each group of atoms joined by S, D, T or Q bonds". A
 // bond that joins makes one lowest atom point to the other. Paths are halved as they are followed, so that the work stays near to one step a bond.
+// Each function asks for `Pointing`: a struct that kept it would hold the caller's labels by `&mut`, and each contract would need a lender's clause to give them back.
 ghost use Rattle.std.specs.Prelude.{◌≡◌, List, map, ℕ, suc, ◌≤◌, ◌<◌, length, drop};
 ghost use Rattle.lists.specs.Lists.{count_up, rows_from};
 ghost use Rattle.format.specs.Table.{bond_at};
@@ -16,12 +17,12 @@ fn lowest_of(pointers: &mut [u8], atom: usize) -> usize
     ensures { Found pointers.old atom pointers.new result }
 {
     let mut at = atom;
-    let mut up = pointers[at] as usize;
+    let mut up = usize::from(pointers[at]);
     while up < at {
         let over = pointers[up];
         pointers[at] = over;
-        at = over as usize;
-        up = pointers[at] as usize;
+        at = usize::from(over);
+        up = usize::from(pointers[at]);
     }
     at
 }
@@ -35,9 +36,7 @@ fn join(pointers: &mut [u8], first: usize, second: usize)
     let b = lowest_of(pointers, second);
     if a < b {
         pointers[b] = a as u8;
-        return;
-    }
-    if b < a {
+    } else if b < a {
         pointers[a] = b as u8;
     }
 }
@@ -48,24 +47,13 @@ fn join_bond(table: &[i32], place: usize, pointers: &mut [u8])
     ensures { JoinsBond pointers.old (bond_at (drop place table.now)) pointers.new }
 {
     let kind = cell(table, place + 2);
-    if kind < 1 {
+    if kind < 1 || LAST_JOINING < kind {
         return;
     }
-    if LAST_JOINING < kind {
-        return;
-    }
+    let atoms = pointers.len();
     let first = cell(table, place) as usize;
     let second = cell(table, place + 1) as usize;
-    if first < 1 {
-        return;
-    }
-    if pointers.len() < first {
-        return;
-    }
-    if second < 1 {
-        return;
-    }
-    if pointers.len() < second {
+    if first < 1 || atoms < first || second < 1 || atoms < second {
         return;
     }
     join(pointers, first - 1, second - 1);
@@ -76,10 +64,8 @@ pub fn stand_alone(pointers: &mut [u8])
     requires { length pointers.old ≤ 256 }
     ensures { pointers.new ≡ count_up 0 (length pointers.old) }
 {
-    let mut i = 0;
-    while i < pointers.len() {
-        pointers[i] = i as u8;
-        i += 1;
+    for (i, pointer) in pointers.iter_mut().enumerate() {
+        *pointer = i as u8;
     }
 }
 
@@ -88,9 +74,7 @@ pub fn join_bonds(table: &[i32], bonds: usize, pointers: &mut [u8])
     requires { Pointing pointers.old × (length pointers.old ≤ 256) × (bonds ≤ 512) × (pointers.old ≡ count_up 0 (length pointers.old)) }
     ensures { JoinsAll pointers.old (rows_from 3 bond_at bonds (drop 1296 table.now)) pointers.new }
 {
-    let mut i = bonds;
-    while 0 < i {
-        i = i - 1;
+    for i in (0..bonds).rev() {
         join_bond(table, Table::bond(i), pointers);
     }
 }
@@ -100,10 +84,8 @@ pub fn settle(pointers: &mut [u8])
     requires { Pointing pointers.old }
     ensures { Changed pointers.old pointers.new × ((ls : List ℕ) → Leads ls pointers.old → map suc pointers.new ≡ ls) }
 {
-    let mut i = 0;
-    while i < pointers.len() {
-        let up = pointers[i] as usize;
+    for i in 0..pointers.len() {
+        let up = usize::from(pointers[i]);
         pointers[i] = pointers[up];
-        i += 1;
     }
 }

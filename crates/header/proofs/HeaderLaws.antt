@@ -5,41 +5,28 @@ use mathlib.Core.Path.{◌≡◌, refl, sym, ap, ◌∙◌}
 use mathlib.Core.Bool.{Bool, true, false}
 use mathlib.Core.List.{List, [], ◌∷◌}
 use native.Mathlib.Omega.{arith}
-use lib.ListN.{length, take, drop, length-drop}
+use lib.ListN.{length, take, drop, replicate, length-drop}
 use lib.IntN.{ℤ, pos}
-use lib.Seq.{sets, length-sets, length-take-le}
+use lib.Seq.{sets, length-take-le}
+use mir.Val.{bool_byte}
 use Rattle.format.specs.Bytes.{Bytes, lead, trim}
 use Rattle.format.specs.Reading.{span_from, span_of}
-use Rattle.format.specs.Table.{zeros, span_cells, flag, text_place}
+use Rattle.format.specs.Table.{span_cells, flag, text_place}
 use Rattle.fields.specs.Trims.{Trimmed}
 use Rattle.fields.specs.declared.Field.{Field}
 use Rattle.gather.specs.Progress.{part_of, prose_at, Within}
-use Rattle.gather.specs.declared.progress.Part.{Part}
 use Rattle.gather.specs.declared.progress.Progress.{Progress}
 use Rattle.filling.specs.Filled.{signed_of, placed}
-use Rattle.filling.proofs.FillLaws.{signed_small, placed_next}
+use Rattle.filling.proofs.FillLaws.{signed_small}
 use Rattle.format.proofs.PlaceLaws.{text_place_lem}
 use Rattle.header.specs.Header.{counts_out, header_out}
-
--- COUNTS, one by one
-pub placed_length : (t t₁ : List ℤ) (at : ℕ) (vs : List ℤ) → t₁ ≡ placed t at vs → length t₁ ≡ length t
-unfolding placed
-placed_length t t₁ at vs e = ap length e ∙ length-sets t at vs
-
-pub counts_placed : (t t₁ t₂ t₃ t₄ t₅ t₆ t₇ : List ℤ) (p : Progress) → t₁ ≡ placed t 0 (signed_of p.atoms ∷ []) → t₂ ≡ placed t₁ 1 (signed_of p.bonds ∷ [])
-    → t₃ ≡ placed t₂ 2 (signed_of p.charges ∷ []) → t₄ ≡ placed t₃ 3 (signed_of p.radicals ∷ []) → t₅ ≡ placed t₄ 4 (signed_of p.centres ∷ [])
-    → t₆ ≡ placed t₅ 5 (signed_of p.pairs ∷ []) → t₇ ≡ placed t₆ 6 (signed_of p.id ∷ []) → t₇ ≡ placed t 0 (counts_out p)
-counts_placed t t₁ t₂ t₃ t₄ t₅ t₆ t₇ p a b c d e f g =
-    placed_next t t₁ t₇ 0 _ _ a
-    (placed_next t₁ t₂ t₇ 1 _ _ b
-    (placed_next t₂ t₃ t₇ 2 _ _ c (placed_next t₃ t₄ t₇ 3 _ _ d (placed_next t₄ t₅ t₇ 4 _ _ e (placed_next t₅ t₆ t₇ 5 _ _ f g)))))
 
 -- TEXTS
 span_some : (p : ℕ) (s : Bytes) → 0 < length s → span_cells (span_from p s) ≡ pos p ∷ pos (length s) ∷ []
 span_some p [] h = absurd (omega arith)
 span_some p (b ∷ s) h = refl
 
-module _ (block : Bytes) (x : Part) (r : Field) (w : Within (length block) x) (h : Trimmed (part_of block x.from x.to) r) where
+module _ (block : Bytes) (x : Field) (r : Field) (w : Within (length block) x) (h : Trimmed (part_of block x.from x.to) r) where
   kept_length : length (trim (part_of block x.from x.to)) ≡ r.to - r.from
   kept_length =
       let text : Bytes = part_of block x.from x.to in
@@ -63,28 +50,25 @@ module _ (block : Bytes) (x : Part) (r : Field) (w : Within (length block) x) (h
       ap (λ z. z ∷ signed_of (r.to - r.from) ∷ []) p ∙ ap (λ z. pos (x.from + lead text) ∷ z ∷ []) q
       ∙ sym (span_some (x.from + lead text) (trim text) (omega (arith, kept_length)))
 
--- what putting the span's two numbers leaves
-pub span_placed : (t t₁ t₂ : List ℤ) (at : ℕ) (a b : ℤ) (ws : List ℤ) → t₁ ≡ placed t at (a ∷ []) → t₂ ≡ placed t₁ (at + 1) (b ∷ []) → a ∷ b ∷ [] ≡ ws → t₂ ≡ placed t at ws
-span_placed t t₁ t₂ at a b ws e f g = placed_next t t₁ t₂ at a (b ∷ []) e f ∙ ap (placed t at) g
-
 -- a text's numbers stand where the table's type says
 pub text_placed : (t t' vs : List ℤ) (i at : ℕ) → i < 3 → at ≡ text_place i → t' ≡ placed t at vs → t' ≡ placed t (7 + 2 * i) vs
 text_placed t t' vs i at h a e = e ∙ ap (λ k. placed t k vs) (a ∙ text_place_lem i h)
 
 -- THE HEADER
 -- the number that tells whether the molecule is handed as a whole
-pub handed_placed : (t t' : List ℤ) (b : Bool) → b ≡ true → t' ≡ placed t 13 (signed_of 1 ∷ []) → t' ≡ placed t 13 (flag b ∷ [])
-handed_placed t t' b h e = e ∙ ap (λ z. placed t 13 (z ∷ [])) (signed_small 1 (omega arith) ∙ ap flag (sym h))
+flagged : (b : Bool) → signed_of (bool_byte b) ≡ flag b
+flagged true = signed_small 1 (omega arith)
+flagged false = signed_small 0 (omega arith)
 
-pub unhanded_placed : (t t' : List ℤ) (b : Bool) → b ≡ false → t' ≡ placed t 13 (signed_of 0 ∷ []) → t' ≡ placed t 13 (flag b ∷ [])
-unhanded_placed t t' b h e = e ∙ ap (λ z. placed t 13 (z ∷ [])) (signed_small 0 (omega arith) ∙ ap flag (sym h))
+pub handed_placed : (t t' : List ℤ) (b : Bool) (n : ℕ) → n ≡ bool_byte b → t' ≡ placed t 13 (signed_of n ∷ []) → t' ≡ placed t 13 (flag b ∷ [])
+handed_placed t t' b n h e = e ∙ ap (λ z. placed t 13 (z ∷ [])) (ap signed_of h ∙ flagged b)
 
-pub header_is : (t t₀ t₁ t₂ t₃ t₄ t₅ : List ℤ) (block : Bytes) (p : Progress) → length t ≡ 16 → t₀ ≡ zeros (length t) → t₁ ≡ placed t₀ 0 (counts_out p)
+pub header_is : (t t₀ t₁ t₂ t₃ t₄ t₅ : List ℤ) (block : Bytes) (p : Progress) → length t ≡ 16 → t₀ ≡ replicate (length t) (pos 0) → t₁ ≡ placed t₀ 0 (counts_out p)
     → t₂ ≡ placed t₁ 7 (span_cells (span_of (prose_at block p.title))) → t₃ ≡ placed t₂ 9 (span_cells (span_of (prose_at block p.origin)))
     → t₄ ≡ placed t₃ 11 (span_cells (span_of (prose_at block p.owner))) → t₅ ≡ placed t₄ 13 (flag p.handed ∷ []) → t₅ ≡ header_out block p
-unfolding zeros placed header_out
+unfolding placed header_out
 header_is t t₀ t₁ t₂ t₃ t₄ t₅ block p h a b c d e f =
     let u : List ℤ = span_cells (span_of (prose_at block p.title)) in
     let v : List ℤ = span_cells (span_of (prose_at block p.origin)) in
     let w : List ℤ = span_cells (span_of (prose_at block p.owner)) in
-    f ∙ ap (λ l. sets l 13 (flag p.handed ∷ [])) (e ∙ ap (λ l. sets l 11 w) (d ∙ ap (λ l. sets l 9 v) (c ∙ ap (λ l. sets l 7 u) (b ∙ ap (λ l. sets l 0 (counts_out p)) (a ∙ ap zeros h)))))
+    f ∙ ap (λ l. sets l 13 (flag p.handed ∷ [])) (e ∙ ap (λ l. sets l 11 w) (d ∙ ap (λ l. sets l 9 v) (c ∙ ap (λ l. sets l 7 u) (b ∙ ap (λ l. sets l 0 (counts_out p)) (a ∙ ap (λ n. replicate n (pos 0)) h)))))

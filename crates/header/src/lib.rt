@@ -11,25 +11,29 @@ ghost use Rattle.gather.specs.Progress.{prose_at, Counted, Within, Bounded};
 ghost use Rattle.filling.specs.Filled.{placed, FilledWhere};
 ghost use Rattle.header.specs.Header.{counts_out, header_out};
 
+use fields::Field;
 use format::Table;
-use gather::progress::{Part, Progress};
+use gather::progress::Progress;
 
 // The numbers that count, and the block's id.
 fn put_counts(part: &mut [i32], p: Progress)
     requires { (7 ≤ length part.old) × Counted p }
     ensures { part.new ≡ placed part.old 0 (counts_out p) }
 {
-    filling::put(part, Table::ATOM_COUNT, p.atoms as u32);
-    filling::put(part, Table::BOND_COUNT, p.bonds as u32);
-    filling::put(part, Table::CHARGE_COUNT, p.charges as u32);
-    filling::put(part, Table::RADICAL_COUNT, p.radicals as u32);
-    filling::put(part, Table::CENTRE_COUNT, p.centres as u32);
-    filling::put(part, Table::PAIR_COUNT, p.pairs as u32);
-    filling::put(part, Table::BLOCK_ID, p.id);
+    let counts = [
+        p.atoms as u32,
+        p.bonds as u32,
+        p.charges as u32,
+        p.radicals as u32,
+        p.centres as u32,
+        p.pairs as u32,
+        p.id,
+    ];
+    filling::put_all(part, Table::ATOM_COUNT, &counts);
 }
 
 // A text's start and length; "(empty: 0, 0)".
-fn put_text(part: &mut [i32], at: usize, block: &[u8], text: Part)
+fn put_text(part: &mut [i32], at: usize, block: &[u8], text: Field)
     requires { (at + 2 ≤ length part.old) × Within (length block.now) text × (length block.now ≤ 32768) }
     ensures { part.new ≡ placed part.old at (span_cells (span_of (prose_at block.now text))) }
 {
@@ -37,43 +41,28 @@ fn put_text(part: &mut [i32], at: usize, block: &[u8], text: Part)
     let to = text.to;
     let kept = fields::texts::trimmed(&block[from..to]);
     if kept.from == kept.to {
-        filling::put(part, at, 0);
-        filling::put(part, at + 1, 0);
+        filling::put_all(part, at, &[0, 0]);
         return;
     }
-    filling::put(part, at, (from + kept.from) as u32);
-    filling::put(part, at + 1, (kept.to - kept.from) as u32);
-}
-
-// Whether the molecule is handed as a whole.
-fn put_handed(part: &mut [i32], handed: bool)
-    requires { 14 ≤ length part.old }
-    ensures { part.new ≡ placed part.old 13 (flag handed ∷ []) }
-{
-    if handed {
-        filling::put(part, Table::HANDED, 1);
-        return;
-    }
-    filling::put(part, Table::HANDED, 0);
+    let start = (from + kept.from) as u32;
+    let length = (kept.to - kept.from) as u32;
+    filling::put_all(part, at, &[start, length]);
 }
 
 // The header, whatever stood there; a part of another length is as it was, and so is any where progress is none that a reading leaves.
 pub fn fill_header(part: &mut [i32], block: &[u8], p: Progress)
     ensures { FilledWhere ((length part.old ≡ 16) × (length block.now ≤ 32768) × Bounded (length block.now) p) part.old part.new (header_out block.now p) }
 {
-    if part.len() != Table::FIRST_ATOM {
+    if part.len() != Table::FIRST_ATOM
+        || Table::BLOCK < block.len()
+        || !guard::is_bounded(block.len(), p)
+    {
         return;
     }
-    if Table::BLOCK < block.len() {
-        return;
-    }
-    if !guard::is_bounded(block.len(), p) {
-        return;
-    }
-    clearing::clear_part(part);
+    part.fill(0);
     put_counts(part, p);
     put_text(part, Table::text(0), block, p.title);
     put_text(part, Table::text(1), block, p.origin);
     put_text(part, Table::text(2), block, p.owner);
-    put_handed(part, p.handed);
+    filling::put(part, Table::HANDED, u32::from(p.handed));
 }

@@ -5,6 +5,8 @@ use Rattle.format.specs.Bytes.{Bytes, cut}
 use Rattle.format.specs.Reading.{Span, span_from}
 use Rattle.format.specs.Walking.{block, stray, Piece, Walked, Found, Finished, NotWalked, title_of, packed}
 use Rattle.format.specs.Writing.{WriteResult}
+use Rattle.transfer.specs.declared.walks.PieceKind.{PieceKind}
+use Rattle.transfer.specs.declared.walks.PieceKind.TheVariants as K
 use Rattle.transfer.specs.Texts.{title_start}
 
 -- one piece of a transfer file: 1 a block, 2 a stray run, with where it ends; 0 finished, else the refusal's number, with 0
@@ -15,6 +17,11 @@ abbrev pub packed_walk : Walked → ℕ
 packed_walk (Found p) = packed_piece p
 packed_walk Finished = 0
 packed_walk (NotWalked n) = packed n 0
+
+-- the number of a piece's kind
+abbrev pub kind_number : PieceKind → ℕ
+kind_number K.Block = 1
+kind_number K.Stray = 2
 
 -- where the title stands in its block, and its length; 0 where it is empty or the first line is no TITLE line, and where the block has 2^32 bytes or more
 abbrev pub packed_span : Span → ℕ

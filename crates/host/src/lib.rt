@@ -2,15 +2,27 @@
 // rule of the format stands here. A `&[u8]` lies in the call as a pointer and a count.
 #![tactic(auto)]
 
-ghost use Rattle.std.specs.Prelude.{◌≡◌};
+ghost use Rattle.std.specs.Prelude.{◌≡◌, ◌<◌};
 ghost use Rattle.format.specs.Table.{lent, read_result};
-ghost use Rattle.format.specs.Walking.{check_of, packed_result, walk_at};
+ghost use Rattle.format.specs.Walking.{check_of, packed, packed_result, walk_at};
 ghost use Rattle.format.specs.Writing.{write_result};
-ghost use Rattle.host.specs.Packed.{packed_walk, packed_title, packed_written};
+ghost use Rattle.host.specs.Packed.{kind_number, packed_walk, packed_title, packed_written};
 
-use reader::Answer;
-use transfer::walks::Walked;
-use writer::Answer as WriteAnswer;
+use transfer::walks::PieceKind;
+
+// What a number counts that stands in the upper half of one of 64 bits.
+const HIGH: u64 = 4294967296;
+
+// The longest block of which a title is told.
+const LONGEST: usize = 4294967295;
+
+// Two numbers in one.
+fn packed(high: u32, low: usize) -> u64
+    requires { low < 4294967296 }
+    ensures { result ≡ packed high low }
+{
+    u64::from(high) * HIGH + low as u64
+}
 
 // "one unsigned 64-bit number: refusal number times 2^32, plus the place; it judges as with a long enough table"
 #[unsafe(no_mangle)]
@@ -26,10 +38,19 @@ pub extern "C" fn galebonnet_read(block: &[u8], table: &mut [i32], positions: &m
     ensures answer { result ≡ packed_result (read_result 103 block.now (lent table.old positions.old)) }
     ensures filled { lent table.new positions.new ≡ (read_result 103 block.now (lent table.old positions.old)).after }
 {
-    let answer = reader::read(block, table, positions);
-    match answer {
-        Answer::Accepted => 0,
-        Answer::Refused(number, place) => (number as u64) * 4294967296 + place as u64,
+    match reader::read(block, table, positions) {
+        Ok(()) => 0,
+        Err(refused) => packed(refused.refusal.number(), refused.place),
+    }
+}
+
+// The number of a piece's kind, as C hosts read it.
+fn kind_number(kind: PieceKind) -> u32
+    ensures { result ≡ kind_number kind }
+{
+    match kind {
+        PieceKind::Block => 1,
+        PieceKind::Stray => 2,
     }
 }
 
@@ -38,12 +59,10 @@ pub extern "C" fn galebonnet_read(block: &[u8], table: &mut [i32], positions: &m
 pub extern "C" fn galebonnet_walk(file: &[u8], place: usize) -> u64
     ensures { result ≡ packed_walk (walk_at file.now place) }
 {
-    let walked = transfer::walks::walk(file, place);
-    match walked {
-        Walked::Block(_, end) => 4294967296 + end as u64,
-        Walked::Stray(_, end) => 8589934592 + end as u64,
-        Walked::Finished => 0,
-        Walked::Refused(number) => (number as u64) * 4294967296,
+    match transfer::walks::walk(file, place) {
+        Ok(Some(piece)) => packed(kind_number(piece.kind), piece.to),
+        Ok(None) => 0,
+        Err(refusal) => packed(refusal.number(), 0),
     }
 }
 
@@ -53,16 +72,14 @@ pub extern "C" fn galebonnet_walk(file: &[u8], place: usize) -> u64
 pub extern "C" fn galebonnet_name(block: &[u8]) -> u64
     ensures { result ≡ packed_title block.now }
 {
-    if 4294967295 < block.len() {
+    if LONGEST < block.len() {
         return 0;
     }
     let title = transfer::names::title(block);
-    let start = title.from;
-    let end = title.to;
-    if start == end {
+    if title.is_empty() {
         return 0;
     }
-    (start as u64) * 4294967296 + (end - start) as u64
+    packed(title.from as u32, title.to - title.from)
 }
 
 // The refusal's number times 2^32, or the count of the bytes written, and the buffer with the one written form in front, or as it was lent. "Refusals in this order: 1;
@@ -72,9 +89,8 @@ pub extern "C" fn galebonnet_write(table: &[i32], texts: &[u8], buffer: &mut [u8
     ensures answer { result ≡ packed_written (write_result 103 table.now texts.now buffer.old) }
     ensures written { buffer.new ≡ (write_result 103 table.now texts.now buffer.old).buffer }
 {
-    let answer = writer::write(table, texts, buffer);
-    match answer {
-        WriteAnswer::Written(count) => count as u64,
-        WriteAnswer::Refused(number) => (number as u64) * 4294967296,
+    match writer::write(table, texts, buffer) {
+        Ok(count) => count as u64,
+        Err(unwritten) => packed(unwritten.number(), 0),
     }
 }

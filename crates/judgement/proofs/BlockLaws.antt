@@ -9,7 +9,6 @@ use native.Mathlib.Omega.{arith}
 use lib.ListN.{length, take, drop, drop_of_length-le}
 use lib.Dec.{eqb, ltb}
 use lib.IntN.{ℤ}
-use borrow.Author.Tests.{eq-eqb, ne_eqb}
 use Rattle.lists.specs.Lists.{is_nil, all, any, filled, flat}
 use Rattle.lists.specs.Order.{sort}
 use Rattle.lists.proofs.ListLaws.{all_nil, all_both}
@@ -26,8 +25,8 @@ use Rattle.format.proofs.CutLaws.{cut_at, cut_nil}
 use Rattle.format.proofs.ReadingLaws.{step_byte, read_go, read_stop, read_end, Went, further, started, step_went, Grown, step_grown}
 use Rattle.lines.specs.Cuts.{LineEnd}
 use Rattle.lines.specs.Looks.{line_from, CleanEnd, ShowsLooked}
-use Rattle.lines.specs.declared.Looked.{Looked}
-use Rattle.lines.specs.declared.Looked.TheVariants as L
+use Rattle.std.specs.declared.option.Option.{Option}
+use Rattle.std.specs.declared.option.Option.TheVariants.{None, Some}
 use Rattle.labels.specs.ShownLines.{by_code}
 use Rattle.sorted.specs.Regions.{kinds_region, member_of, members_from, arrived, void_of, spread_region, keyed_region, seen_from, top_of}
 use Rattle.sorted.specs.GeometryRegion.{geometry_region, largest_of}
@@ -41,14 +40,15 @@ use Rattle.gather.specs.Runs.{Reached, RowsRan}
 use Rattle.gather.proofs.RunLaws.{past_shown, rows_stay}
 use Rattle.gather.specs.declared.Ran.{Ran}
 use Rattle.gather.specs.declared.progress.Progress.{Progress}
-use Rattle.gather.specs.declared.progress.Turn.{Turn}
-use Rattle.gather.specs.declared.progress.Turn.TheVariants.{Go, Stop}
+use Rattle.std.specs.declared.result.Result.{Result}
+use Rattle.format.specs.declared.refusal.Refused.{Refused as Told}
+use Rattle.std.specs.declared.result.Result.TheVariants.{Ok, Err}
 use Rattle.judgement.specs.Lines.{rules_of, begun}
 use Rattle.judgement.specs.Placing.{StoredBefore, Placed, RowsPlaced}
-use Rattle.judgement.specs.Judging.{Stands, ShowsJudged, ReadingLent, Judges, unread_yet}
+use Rattle.judgement.specs.Judging.{ShowsJudged, ReadingLent, Judges, unread_yet, end_by, judged_end}
 use Rattle.judgement.specs.declared.rules.Rules.{Rules as Given}
-use Rattle.judgement.specs.declared.Judged.{Judged}
-use Rattle.judgement.specs.declared.Judged.TheVariants as J
+use Rattle.format.specs.Refusals.{number_of}
+use Rattle.format.specs.declared.refusal.Refusal.TheVariants.{Unlent, ForbiddenByte}
 use Rattle.judgement.proofs.TextTurnLaws.{counted_bounded, silent, flowing_silent}
 use Rattle.judgement.proofs.LabelTurnLaws.{nil_top}
 use Rattle.judgement.proofs.CodeLaws.{over_code, rows_code}
@@ -144,21 +144,21 @@ pub going_start : (u : Given) (block : Bytes) (p : Progress) (t : List ℕ) (sto
 going_start u block p t store q e = rw q (record { state = start; shows = start_shown u.last block t e; noticed = start_begun; stored = start_stored store; goes = refl })
 
 -- all that holds before the first line, and what holds of a scratch of zeros
-pub holds_start : (u : Given) (block : Bytes) (p : Progress) (t : List ℕ) (store : List ℤ) → p ≡ unread_yet → length t ≡ 2973
-    → (0 ≤ length block) × (length t ≡ 2973) × (length store ≡ length store) × Bounded (length block) p × Flowing 0 p × (t ≡ filled 0 2973 [] → Going u block 0 p t store)
-holds_start u block p t store q l = (omega arith, l, refl, rw q (start_bounded (length block)), rw q start_flowing, going_start u block p t store q)
+pub holds_start : (u : Given) (block : Bytes) (p : Progress) (t : List ℕ) (store : List ℤ) → p ≡ unread_yet
+    → (0 ≤ length block) × (length store ≡ length store) × Bounded (length block) p × Flowing 0 p × (t ≡ filled 0 2973 [] → Going u block 0 p t store)
+holds_start u block p t store q = (omega arith, refl, rw q (start_bounded (length block)), rw q start_flowing, going_start u block p t store q)
 
-pub bounded_go : (size : ℕ) (r : Turn) (q : Progress) → r ≡ Go q → BoundedTurn size r → Bounded size q
+pub bounded_go : (size : ℕ) (r : Result Progress Told) (q : Progress) → r ≡ Ok q → BoundedTurn size r → Bounded size q
 bounded_go size r q e b = rw e at b
 
-pub flowing_go : (at : ℕ) (r : Turn) (q : Progress) → r ≡ Go q → FlowingTurn at r → Flowing at q
+pub flowing_go : (at : ℕ) (r : Result Progress Told) (q : Progress) → r ≡ Ok q → FlowingTurn at r → Flowing at q
 flowing_go at r q e f = rw e at f
 
 -- a line of allowed bytes, told of and cut out
-pub looked_end : (block : Bytes) (at : ℕ) (r : Looked) (end : ℕ) → r ≡ L.End end → ShowsLooked block at r → CleanEnd block at end
+pub looked_end : (block : Bytes) (at : ℕ) (r : Option ℕ) (end : ℕ) → r ≡ Some end → ShowsLooked block at r → CleanEnd block at end
 looked_end block at r end e s = rw e at s
 
-pub looked_wrong : (block : Bytes) (at : ℕ) (r : Looked) → r ≡ L.Wrong → ShowsLooked block at r → all allowed (line_from block at) ≡ false
+pub looked_wrong : (block : Bytes) (at : ℕ) (r : Option ℕ) → r ≡ None → ShowsLooked block at r → all allowed (line_from block at) ≡ false
 looked_wrong block at r e s = rw e at s
 
 part_is : (block : Bytes) (at end : ℕ) → LineEnd block at end → line_from block at ≡ part_of block at end
@@ -168,10 +168,13 @@ pub part_clean : (block : Bytes) (at end : ℕ) → CleanEnd block at end → al
 part_clean block at end e = ap (all allowed) (sym (part_is block at end e.end)) ∙ e.clean
 
 -- a line with a byte that is not allowed
-pub unclean : (u : Given) (block : Bytes) (at : ℕ) (p : Progress) (t : List ℕ) (store : List ℤ) → Going u block at p t store → at < length block → all allowed (line_from block at) ≡ false → read_lines (rules_of u) start (cut block) ≡ Refused 3 at
-unclean u block at p t store g more e =
+pub unclean : (u : Given) (block : Bytes) (at : ℕ) (p : Progress) (t : List ℕ) (store : List ℤ) → Going u block at p t store → at < length block → all allowed (line_from block at) ≡ false
+    → (a : Told) → a ≡ record { refusal = ForbiddenByte; place = at } → read_lines (rules_of u) start (cut block) ≡ Refused (number_of a.refusal) a.place
+unclean u block at p t store g more e a q =
+    rw q (
     g.goes ∙ ap (read_lines (rules_of u) g.state) (cut_at block at more) ∙ read_stop (rules_of u) g.state 3 (line_from block at) (cut (drop (at + line_len (drop at block)) block)) (step_byte (rules_of u) g.state (line_from block at) e)
     ∙ ap (Refused 3) g.shows.place
+    )
 
 -- behind a line whose state before it was `old`
 pub record Gone (u : Given) (block : Bytes) (at : ℕ) (p : Progress) (t : List ℕ) (old : State) : Type 0 where
@@ -181,7 +184,7 @@ pub record Gone (u : Given) (block : Bytes) (at : ℕ) (p : Progress) (t : List 
   pub grown : Grown old state
   pub goes : read_lines (rules_of u) start (cut block) ≡ read_lines (rules_of u) state (cut (drop at block))
 
-module _ (u : Given) (block : Bytes) (at end : ℕ) (p : Progress) (t s : List ℕ) (store : List ℤ) (g : Going u block at p t store) (more : at < length block) (e : LineEnd block at end) (r : Turn)
+module _ (u : Given) (block : Bytes) (at end : ℕ) (p : Progress) (t s : List ℕ) (store : List ℤ) (g : Going u block at p t store) (more : at < length block) (e : LineEnd block at end) (r : Result Progress Told)
     (sim : (st : State) → Shows u.last block at p t st → begun st ≡ true → ShowsTurn u.last block at r s (line_step (rules_of u) st (part_of block at end))) where
   high : end ≤ length block
   high = e.high (omega arith)
@@ -193,10 +196,10 @@ module _ (u : Given) (block : Bytes) (at end : ℕ) (p : Progress) (t s : List �
   on_line_lem : read_lines (rules_of u) start (cut block) ≡ read_lines (rules_of u) g.state (part_of block at end ∷ cut (drop end block))
   on_line_lem = g.goes ∙ ap (read_lines (rules_of u) g.state) cut_is
 
-  pub went : (next : Progress) → r ≡ Go next → Gone u block end next s g.state
+  pub went : (next : Progress) → r ≡ Ok next → Gone u block end next s g.state
   went next q = by (line_step (rules_of u) g.state (part_of block at end)) refl (rw q at (sim g.state g.shows g.noticed))
     where
-      by : (turned : Turned) → line_step (rules_of u) g.state (part_of block at end) ≡ turned → ShowsTurn u.last block at (Go next) s turned → Gone u block end next s g.state
+      by : (turned : Turned) → line_step (rules_of u) g.state (part_of block at end) ≡ turned → ShowsTurn u.last block at (Ok next) s turned → Gone u block end next s g.state
       by (going st) f w = record {
         state = past (part_of block at end) st;
         shows = past_shown u.last block at end next s st e.low high w;
@@ -206,13 +209,13 @@ module _ (u : Given) (block : Bytes) (at end : ℕ) (p : Progress) (t s : List �
       }
       by (stopping n) f w = absurd w
 
-  pub stopped : (n place : ℕ) → r ≡ Stop n place → read_lines (rules_of u) start (cut block) ≡ Refused n place
-  stopped n place q = by (line_step (rules_of u) g.state (part_of block at end)) refl (rw q at (sim g.state g.shows g.noticed))
+  pub stopped : (a : Told) → r ≡ Err a → read_lines (rules_of u) start (cut block) ≡ Refused (number_of a.refusal) a.place
+  stopped a q = by (line_step (rules_of u) g.state (part_of block at end)) refl (rw q at (sim g.state g.shows g.noticed))
     where
-      by : (turned : Turned) → line_step (rules_of u) g.state (part_of block at end) ≡ turned → ShowsTurn u.last block at (Stop n place) s turned → read_lines (rules_of u) start (cut block) ≡ Refused n place
+      by : (turned : Turned) → line_step (rules_of u) g.state (part_of block at end) ≡ turned → ShowsTurn u.last block at (Err a) s turned → read_lines (rules_of u) start (cut block) ≡ Refused (number_of a.refusal) a.place
       by (going st) f w = absurd w
       by (stopping m) f w =
-          on_line_lem ∙ read_stop (rules_of u) g.state m (part_of block at end) (cut (drop end block)) f ∙ ap (λ (k : ℕ). Refused k g.state.at) (sym w.0) ∙ ap (Refused n) (g.shows.place ∙ sym w.1)
+          on_line_lem ∙ read_stop (rules_of u) g.state m (part_of block at end) (cut (drop end block)) f ∙ ap (λ (k : ℕ). Refused k g.state.at) (sym w.0) ∙ ap (Refused (number_of a.refusal)) (g.shows.place ∙ sym w.1)
 
 -- THE STORE OF ROWS behind a line: it has the rows where XYZ does not run; and where it runs, those before the latest one
 module _ (u : Given) (block : Bytes) (at : ℕ) (p : Progress) (t : List ℕ) (store : List ℤ) (b : Bounded (length block) p) where
@@ -238,8 +241,8 @@ module _ (u : Given) (block : Bytes) (at : ℕ) (p : Progress) (t : List ℕ) (s
         record { state = y.state; shows = y.shows; noticed = ap (all (λ (y : Label). ltb 0 y.low)) y.seen ∙ x.noticed; stored = y.stored; goes = x.goes ∙ y.goes }
 
     pub placed_on : (Zeroed : Type 0) (n : ℕ) → at ≤ length block → length store ≡ n → (Zeroed → (old : State) × Stored store old.geometry.rows × Gone u block at p t old)
-        → (r ≤ length block) × (length s ≡ 2973) × (length after ≡ n) × Bounded (length block) p × Flowing r p × (Zeroed → Going u block r p s after)
-    placed_on Zeroed n h l g = (placed.high h, placed.long, placed.stores ∙ l, b, flowing_silent r p (Go p) refl (ap silent sixteen), λ z. let x = g z in placed_going x.0 x.1 x.2)
+        → (r ≤ length block) × (length after ≡ n) × Bounded (length block) p × Flowing r p × (Zeroed → Going u block r p s after)
+    placed_on Zeroed n h l g = (placed.high h, placed.stores ∙ l, b, flowing_silent r p (Ok p) refl (ap silent sixteen), λ z. let x = g z in placed_going x.0 x.1 x.2)
 
 -- A RUN OF QUICK ROWS, from where a line ended; what is known of a scratch of zeros stays known
 module _ (u : Given) (block : Bytes) (at : ℕ) (p : Progress) (t s : List ℕ) (store : List ℤ) (r : Ran) (ran : RowsRan u.last block at p t s r) (b : Bounded (length block) p) where
@@ -261,9 +264,9 @@ module _ (u : Given) (block : Bytes) (at : ℕ) (p : Progress) (t s : List ℕ) 
       let x : Reached (rules_of u) u.last block at r.place r.known s g.state = ran.goes (rules_of u) g.state refl low b.counted g.shows in
       record { state = x.state; shows = x.shows; noticed = ap (all (λ (y : Label). ltb 0 y.low)) x.seen ∙ g.noticed; stored = rw x.rows g.stored; goes = g.goes ∙ x.goes }
 
-  pub ran_on : (Zeroed : Type 0) (n : ℕ) → 1 ≤ u.last → at ≤ length block → length s ≡ 2973 → length store ≡ n → Flowing at p → (Zeroed → Going u block at p t store)
-      → (r.place ≤ length block) × (length s ≡ 2973) × (length store ≡ n) × Bounded (length block) r.known × Flowing r.place r.known × (Zeroed → Going u block r.place r.known s store)
-  ran_on Zeroed n low h l w f g = (ran.high h, l, w, counted_bounded (length block) p (Go r.known) (ran.counted b.counted) b, ran_flowing f, λ z. ran_going low (g z))
+  pub ran_on : (Zeroed : Type 0) (n : ℕ) → 1 ≤ u.last → at ≤ length block → length store ≡ n → Flowing at p → (Zeroed → Going u block at p t store)
+      → (r.place ≤ length block) × (length store ≡ n) × Bounded (length block) r.known × Flowing r.place r.known × (Zeroed → Going u block r.place r.known s store)
+  ran_on Zeroed n low h w f g = (ran.high h, w, counted_bounded (length block) p (Ok r.known) (ran.counted b.counted) b, ran_flowing f, λ z. ran_going low (g z))
 
 -- AT THE END
 module _ (u : Given) (block : Bytes) (at : ℕ) (p : Progress) (t : List ℕ) (store : List ℤ) (g : Going u block at p t store) (done : length block ≤ at) (b : Bounded (length block) p) where
@@ -275,20 +278,19 @@ module _ (u : Given) (block : Bytes) (at : ℕ) (p : Progress) (t : List ℕ) (s
       ends ∙ ap (λ (z : Bool). ending z (is_nil g.state.seen) g.state) (ap over g.shows.running ∙ over_code p.running b.code ∙ e)
       ∙ ap (λ (z : Bool). ending x z g.state) (nil_top g.state.seen g.noticed ∙ ap (λ (n : ℕ). eqb n 0) (sym g.shows.top) ∙ f)
 
-  pub accepts : p.running ≡ 13 → Stands u block p t store
-  accepts e = record { state = g.state; is = ends_as true (eqb p.top 0) (eq-eqb p.running 13 e) refl; holding = g.shows.holding; bounded = b; stored = g.stored }
-
-  pub empty_refused : (p.running ≡ 13 → ⊥) → p.top ≡ 0 → read_lines (rules_of u) start (cut block) ≡ Refused 4 0
-  empty_refused e f = ends_as false true (ne_eqb p.running 13 e) (eq-eqb p.top 0 f)
-
-  pub endless_refused : (p.running ≡ 13 → ⊥) → (p.top ≡ 0 → ⊥) → read_lines (rules_of u) start (cut block) ≡ Refused 16 at
-  endless_refused e f = ends_as false false (ne_eqb p.running 13 e) (ne_eqb p.top 0 f) ∙ ap (Refused 16) g.shows.place
+  pub ended : (r : Result Progress Told) → r ≡ judged_end p at → ShowsJudged u block t store r
+  ended r e = rw e (by (eqb p.running 13) (eqb p.top 0) refl refl)
+    where
+      by : (x y : Bool) → eqb p.running 13 ≡ x → eqb p.top 0 ≡ y → ShowsJudged u block t store (end_by x y p at)
+      by true y e f = record { state = g.state; is = ends_as true y e f; holding = g.shows.holding; bounded = b; stored = g.stored }
+      by false true e f = ends_as false true e f
+      by false false e f = ends_as false false e f ∙ ap (Refused 16) g.shows.place
 
 -- WHAT A READING LENDS, and what it does not
 module _ (u : Given) (block : Bytes) (t : List ℕ) (store : List ℤ) where
-  pub judges_unlent : (ReadingLent u t → ⊥) → Judges u block t t store store (J.Refused 0 0)
+  pub judges_unlent : (ReadingLent u t → ⊥) → Judges u block t t store store (Err (record { refusal = Unlent; place = 0 }))
   judges_unlent n = record { long = refl; stores = refl; unlent = λ h. (refl, refl, refl); shows = λ g z. absurd (n (record { long = ap length z ∙ filled_length 0 2973 [] (omega arith); ruled = g })) }
 
-  pub judges_lines : ReadingLent u t → (s : List ℕ) (after : List ℤ) (r : Judged) → (length s ≡ 2973) × (length after ≡ length store) × (t ≡ filled 0 2973 [] → ShowsJudged u block s after r)
+  pub judges_lines : ReadingLent u t → (s : List ℕ) (after : List ℤ) (r : Result Progress Told) → (length s ≡ 2973) × (length after ≡ length store) × (t ≡ filled 0 2973 [] → ShowsJudged u block s after r)
       → Judges u block t s store after r
   judges_lines l s after r h = record { long = h.0 ∙ sym l.long; stores = h.1; unlent = λ n. absurd (n l); shows = λ g z. h.2 z }

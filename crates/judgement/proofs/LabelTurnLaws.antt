@@ -23,14 +23,15 @@ use Rattle.sorted.specs.Regions.{seen_from, top_of}
 use Rattle.gather.specs.Progress.{part_of, count_of, laid, Bounded, BoundedTurn, FlowingTurn, altered}
 use Rattle.gather.specs.Shows.{Shows, ShowsTurn}
 use Rattle.gather.specs.declared.progress.Progress.{Progress}
-use Rattle.gather.specs.declared.progress.Turn.{Turn}
-use Rattle.gather.specs.declared.progress.Turn.TheVariants.{Stop}
+use Rattle.std.specs.declared.result.Result.{Result}
+use Rattle.format.specs.declared.refusal.Refused.{Refused}
 use Rattle.gather.proofs.LaidLaws.{sized, seen_seated}
 use Rattle.gather.proofs.ListLineLaws.{turn_shown}
 use Rattle.judgement.specs.Lines.{rules_of, label_turn, begun}
 use Rattle.judgement.specs.declared.rules.Rules.{Rules as Given}
+use Rattle.format.specs.declared.refusal.Refusal.TheVariants.{BehindEnd, LabelOrder, NoEquals, NoTitle}
 use Rattle.judgement.proofs.SeenLaws.{known_told, Noted}
-use Rattle.judgement.proofs.LineTurnLaws.{stop_shown, listed_still, counted_as_lem}
+use Rattle.judgement.proofs.LineTurnLaws.{stop_shown, listed_still, counted_as_lem, refused_at}
 use Rattle.judgement.proofs.CodeLaws.{over_code}
 use Rattle.judgement.proofs.TextTurnLaws.{part_length, part_drop}
 
@@ -49,10 +50,10 @@ label_bounded size code top p h b = record {
   id = b.id;
 }
 
-module _ (block : Bytes) (at from end code : ℕ) (u : Given) (p : Progress) (t : List ℕ) (long : length t ≡ 2973) (b : Bounded (length block) p) (small : code < 18) where
-  abbrev pub LabelPromise : Turn → List ℕ → Type 0
+module _ (block : Bytes) (at from end code : ℕ) (u : Given) (p : Progress) (t : List ℕ) (b : Bounded (length block) p) (small : code < 18) where
+  abbrev pub LabelPromise : Result Progress Refused → List ℕ → Type 0
   LabelPromise r s =
-      (length s ≡ 2973) × BoundedTurn (length block) r × FlowingTurn end r
+      BoundedTurn (length block) r × FlowingTurn end r
       × ((st : State) → Shows u.last block at p t st → ShowsTurn u.last block at r s (label_turn (rules_of u) st from (by_code code known) (part_of block from end)))
 
   module _ (w : Bool) (told : (labels : List Label) → take 18 (drop 2946 t) ≡ seen_from 18 0 labels → p.top ≡ top_of labels → w ≡ misplaced labels (by_code code known)) where
@@ -72,11 +73,11 @@ module _ (block : Bytes) (at from end code : ℕ) (u : Given) (p : Progress) (t 
           ap (λ (z : Bool). if z stop 6 else if over st.running stop 17 else value_turn (rules_of u) (by_code code known).holds (opened st (by_code code known)) from (part_of block from end)) (order_is x e)
           ∙ ap (λ (z : Bool). if x stop 6 else if z stop 17 else value_turn (rules_of u) (by_code code known).holds (opened st (by_code code known)) from (part_of block from end)) (over_is ∙ f)
 
-    pub label_misplaced : w ≡ true → LabelPromise (Stop 6 at) t
-    label_misplaced e = (long, tt, tt, λ st s. stop_shown u.last block at t 6 _ (label_is st s true (eqb p.running 13) e refl))
+    pub label_misplaced : w ≡ true → LabelPromise (refused_at LabelOrder at) t
+    label_misplaced e = (tt, tt, λ st s. stop_shown u.last block at t LabelOrder _ (label_is st s true (eqb p.running 13) e refl))
 
-    pub label_over : w ≡ false → p.running ≡ 13 → LabelPromise (Stop 17 at) t
-    label_over e f = (long, tt, tt, λ st s. stop_shown u.last block at t 17 _ (label_is st s false true e (eq-eqb p.running 13 f)))
+    pub label_over : w ≡ false → p.running ≡ 13 → LabelPromise (refused_at BehindEnd at) t
+    label_over e f = (tt, tt, λ st s. stop_shown u.last block at t BehindEnd _ (label_is st s false true e (eq-eqb p.running 13 f)))
 
     module _ (e : w ≡ false) (n : p.running ≡ 13 → ⊥) (cells : List ℕ) (top : ℕ)
         (note : (labels : List Label) → take 18 (drop 2946 t) ≡ seen_from 18 0 labels → p.top ≡ top_of labels → Noted cells top code labels) where
@@ -102,15 +103,14 @@ module _ (block : Bytes) (at from end code : ℕ) (u : Given) (p : Progress) (t 
             };
           }
 
-      pub label_value : (r : Turn) (s : List ℕ)
-          → (length s ≡ 2973) × BoundedTurn (length block) r × FlowingTurn end r
+      pub label_value : (r : Result Progress Refused) (s : List ℕ)
+          → BoundedTurn (length block) r × FlowingTurn end r
           × ((st : State) → Shows u.last block at (with_label code top p) (put_mid 2946 18 t cells) st → ShowsTurn u.last block at r s (value_turn (rules_of u) (by_code code known).holds st from (part_of block from end)))
           → LabelPromise r s
       label_value r s q = (
         q.0,
         q.1,
-        q.2,
-        λ st w. turn_shown u.last block at r s _ _ (label_is st w false false e (ne_eqb p.running 13 n)) (q.3 (opened st (by_code code known)) (opened_shown st w)),
+        λ st w. turn_shown u.last block at r s _ _ (label_is st w false false e (ne_eqb p.running 13 n)) (q.2 (opened st (by_code code known)) (opened_shown st w)),
       )
 
 -- THE FIRST LINE: nothing seen, by the top
@@ -129,10 +129,10 @@ line_labelled : (u : Rules) (st : State) (l : Bytes) (x : Label) (value from : �
 unfolding line_turn
 line_labelled u st l x value from e q = ap (line_turn u st l) e ∙ ap (λ (n : ℕ). label_turn u st n x (drop value l)) q
 
-module _ (block : Bytes) (at end : ℕ) (u : Given) (p : Progress) (t : List ℕ) (long : length t ≡ 2973) (h : at ≤ end) (l : end ≤ length block) (clean : all allowed (part_of block at end) ≡ true) (r : LineKind) (shows : ShowsLine (part_of block at end) r) where
-  abbrev pub StepPromise : Turn → List ℕ → Type 0
+module _ (block : Bytes) (at end : ℕ) (u : Given) (p : Progress) (t : List ℕ) (h : at ≤ end) (l : end ≤ length block) (clean : all allowed (part_of block at end) ≡ true) (r : LineKind) (shows : ShowsLine (part_of block at end) r) where
+  abbrev pub StepPromise : Result Progress Refused → List ℕ → Type 0
   StepPromise r s =
-      (length s ≡ 2973) × BoundedTurn (length block) r × FlowingTurn end r
+      BoundedTurn (length block) r × FlowingTurn end r
       × ((st : State) → Shows u.last block at p t st → begun st ≡ true → ShowsTurn u.last block at r s (line_step (rules_of u) st (part_of block at end)))
 
   line_is : (k : LineKind) → r ≡ k → line_of (part_of block at end) ≡ shown_line (part_of block at end) k
@@ -145,19 +145,18 @@ module _ (block : Bytes) (at end : ℕ) (u : Given) (p : Progress) (t : List ℕ
   seen_nil : (st : State) → Shows u.last block at p t st → begun st ≡ true → is_nil st.seen ≡ eqb p.top 0
   seen_nil st s g = nil_top st.seen g ∙ ap (λ (n : ℕ). eqb n 0) (sym s.top)
 
-  first : (k : LineKind) → r ≡ k → has_code 1 (shown_line (part_of block at end) k) ≡ false → p.top ≡ 0 → StepPromise (Stop 4 at) t
+  first : (k : LineKind) → r ≡ k → has_code 1 (shown_line (part_of block at end) k) ≡ false → p.top ≡ 0 → StepPromise (refused_at NoTitle at) t
   first k e c z = (
-    long,
     tt,
     tt,
-    λ st s g. stop_shown u.last block at t 4 _
+    λ st s g. stop_shown u.last block at t NoTitle _
         (step_first (rules_of u) st (part_of block at end) clean (seen_nil st s g ∙ eq-eqb p.top 0 z) (title_is k e ∙ c)),
   )
 
-  pub plain_first : r ≡ K.Plain → p.top ≡ 0 → StepPromise (Stop 4 at) t
+  pub plain_first : r ≡ K.Plain → p.top ≡ 0 → StepPromise (refused_at NoTitle at) t
   plain_first e z = first K.Plain e refl z
 
-  pub unparted_first : r ≡ K.Unparted → p.top ≡ 0 → StepPromise (Stop 4 at) t
+  pub unparted_first : r ≡ K.Unparted → p.top ≡ 0 → StepPromise (refused_at NoTitle at) t
   unparted_first e z = first K.Unparted e refl z
 
   later : (st : State) → Shows u.last block at p t st → begun st ≡ true → (eqb p.top 0 && not (title_line (part_of block at end))) ≡ false → line_step (rules_of u) st (part_of block at end) ≡ line_turn (rules_of u) st (part_of block at end) (line_of (part_of block at end))
@@ -166,22 +165,20 @@ module _ (block : Bytes) (at end : ℕ) (u : Given) (p : Progress) (t : List ℕ
   begun_later : (p.top ≡ 0 → ⊥) → (eqb p.top 0 && not (title_line (part_of block at end))) ≡ false
   begun_later z = ap (λ (x : Bool). x && not (title_line (part_of block at end))) (ne_eqb p.top 0 z)
 
-  pub unparted_step : r ≡ K.Unparted → (p.top ≡ 0 → ⊥) → StepPromise (Stop 5 at) t
+  pub unparted_step : r ≡ K.Unparted → (p.top ≡ 0 → ⊥) → StepPromise (refused_at NoEquals at) t
   unparted_step e z = (
-    long,
     tt,
     tt,
-    λ st s g. stop_shown u.last block at t 5 _ (later st s g (begun_later z) ∙ line_unparted (rules_of u) st (part_of block at end) (line_is K.Unparted e)),
+    λ st s g. stop_shown u.last block at t NoEquals _ (later st s g (begun_later z) ∙ line_unparted (rules_of u) st (part_of block at end) (line_is K.Unparted e)),
   )
 
-  pub plain_step : (a : Turn) (s : List ℕ) → r ≡ K.Plain → (p.top ≡ 0 → ⊥)
-      → (length s ≡ 2973) × BoundedTurn (length block) a × FlowingTurn end a
+  pub plain_step : (a : Result Progress Refused) (s : List ℕ) → r ≡ K.Plain → (p.top ≡ 0 → ⊥)
+      → BoundedTurn (length block) a × FlowingTurn end a
       × ((st : State) → Shows u.last block at p t st → ShowsTurn u.last block at a s (further_turn (rules_of u) st.running st (part_of block at end))) → StepPromise a s
   plain_step a s e z q = (
     q.0,
     q.1,
-    q.2,
-    λ st w g. turn_shown u.last block at a s _ _ (later st w g (begun_later z) ∙ line_plain (rules_of u) st (part_of block at end) (line_is K.Plain e)) (q.3 st w),
+    λ st w g. turn_shown u.last block at a s _ _ (later st w g (begun_later z) ∙ line_plain (rules_of u) st (part_of block at end) (line_is K.Plain e)) (q.2 st w),
   )
 
   module _ (code value : ℕ) (e : r ≡ K.Labelled code value) where
@@ -195,19 +192,18 @@ module _ (block : Bytes) (at end : ℕ) (u : Given) (p : Progress) (t : List ℕ
       late_is : (eqb p.top 0 && not (title_line (part_of block at end))) ≡ late
       late_is = ap (λ (x : Bool). eqb p.top 0 && not x) (title_code ∙ eqb_symm 1 code) ∙ sym said
 
-      pub label_first : late ≡ true → StepPromise (Stop 4 at) t
+      pub label_first : late ≡ true → StepPromise (refused_at NoTitle at) t
       label_first f =
           let q = and_parts (eqb p.top 0) (not (title_line (part_of block at end))) (late_is ∙ f) in
-          (long, tt, tt, λ st s g. stop_shown u.last block at t 4 _ (step_first (rules_of u) st (part_of block at end) clean (seen_nil st s g ∙ q.0) (not-true (title_line (part_of block at end)) q.1)))
+          (tt, tt, λ st s g. stop_shown u.last block at t NoTitle _ (step_first (rules_of u) st (part_of block at end) clean (seen_nil st s g ∙ q.0) (not-true (title_line (part_of block at end)) q.1)))
 
-      pub label_step : (a : Turn) (s : List ℕ) → late ≡ false
-          → (length s ≡ 2973) × BoundedTurn (length block) a × FlowingTurn end a
+      pub label_step : (a : Result Progress Refused) (s : List ℕ) → late ≡ false
+          → BoundedTurn (length block) a × FlowingTurn end a
           × ((st : State) → Shows u.last block at p t st → ShowsTurn u.last block at a s (label_turn (rules_of u) st (at + value) (by_code code known) (part_of block (at + value) end))) → StepPromise a s
       label_step a s f q = (
         q.0,
         q.1,
-        q.2,
-        λ st w g. turn_shown u.last block at a s _ _ (later st w g (late_is ∙ f) ∙ labelled st w) (q.3 st w),
+        λ st w g. turn_shown u.last block at a s _ _ (later st w g (late_is ∙ f) ∙ labelled st w) (q.2 st w),
       )
         where
           rest_is : drop value (part_of block at end) ≡ part_of block (at + value) end

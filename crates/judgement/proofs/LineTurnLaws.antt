@@ -2,7 +2,8 @@
 use Prim.Native.Nat.{ℕ, zero, suc, ◌≤◌}
 use mathlib.Core.Path.{◌≡◌, refl, sym, ap, ◌∙◌}
 use mathlib.Core.Bool.{Bool, true, false, not}
-use mathlib.Core.Option.{Option, none, some}
+use Rattle.std.specs.declared.option.Option.{Option}
+use Rattle.std.specs.declared.option.Option.TheVariants.{None, Some}
 use mathlib.Core.List.{List}
 use native.Mathlib.Omega.{arith}
 use lib.ListN.{length}
@@ -14,28 +15,37 @@ use Rattle.format.specs.Formula.{Counted as Told, formula_shape}
 use Rattle.format.specs.Structure.{Structure, rows_of, unknown}
 use Rattle.format.specs.Reading.{State, if◌stop◌else◌, with_body, with_id, with_formula, version_turn, id_turn, formula_turn, blank_or}
 use Rattle.format.specs.Reading.{Go as going, Stop as stopping, Turn as Turned}
-use Rattle.molform.specs.Verdicts.{verdict_of, entries_verdict, formula_verdict, turn_of}
+use Rattle.molform.specs.Verdicts.{Verdict, verdict_of, entries_verdict, formula_verdict, turn_of}
 use Rattle.molform.specs.Totals.{formula_entries}
 use Rattle.molform.proofs.VerdictLaws.{formula_turn_lem}
 use Rattle.sorted.specs.Regions.{Fits}
 use Rattle.gather.specs.Progress.{part_of, count_of, entries_from, laid, Counted, Bounded, Listed, entry_fine, altered}
 use Rattle.gather.specs.Shows.{Shows, ShowsTurn}
-use Rattle.gather.specs.declared.progress.Part.{Part}
+use Rattle.fields.specs.declared.Field.{Field}
 use Rattle.gather.specs.declared.progress.Progress.{Progress}
-use Rattle.gather.specs.declared.progress.Turn.TheVariants.{Go, Stop}
+use Rattle.std.specs.declared.result.Result.{Result}
+use Rattle.std.specs.declared.result.Result.TheVariants.{Ok, Err}
+use Rattle.format.specs.Refusals.{number_of}
+use Rattle.format.specs.declared.refusal.Refusal.{Refusal}
+use Rattle.format.specs.declared.refusal.Refused.{Refused}
 use Rattle.gather.proofs.KindLaws.{counted_in, formula_fine_lem}
 use Rattle.judgement.specs.Lines.{with_texts, text_put}
 use Rattle.judgement.specs.Values.{ShowsId}
-use Rattle.judgement.specs.declared.values.BlockId.{BlockId as Answered}
-use Rattle.judgement.specs.declared.values.BlockId.TheVariants as Id
 use Rattle.judgement.proofs.ValueLaws.{is_version}
 
 -- AN ANSWER SHOWS a turn that goes on, or one that stops
-pub go_shown : (k : ℕ) (block : Bytes) (at : ℕ) (q : Progress) (t : List ℕ) (next : State) (turned : Turned) → turned ≡ going next → Shows k block at q t next → ShowsTurn k block at (Go q) t turned
+pub go_shown : (k : ℕ) (block : Bytes) (at : ℕ) (q : Progress) (t : List ℕ) (next : State) (turned : Turned) → turned ≡ going next → Shows k block at q t next → ShowsTurn k block at (Ok q) t turned
 go_shown k block at q t next turned e h = rw e h
 
-pub stop_shown : (k : ℕ) (block : Bytes) (at : ℕ) (t : List ℕ) (n : ℕ) (turned : Turned) → turned ≡ stopping n → ShowsTurn k block at (Stop n at) t turned
-stop_shown k block at t n turned e = rw e (refl, refl)
+abbrev pub refused_at : Refusal → (at : ℕ) → Result Progress Refused
+refused_at e at = Err (record { refusal = e; place = at })
+
+pub stop_shown : (k : ℕ) (block : Bytes) (at : ℕ) (t : List ℕ) (e : Refusal) (turned : Turned) → turned ≡ stopping (number_of e) → ShowsTurn k block at (refused_at e at) t turned
+stop_shown k block at t e turned h = rw h (refl, refl)
+
+-- the same of a refusal that is told to be it
+pub stop_told : (k : ℕ) (block : Bytes) (at : ℕ) (t : List ℕ) (e : Refusal) (x : Refused) → x ≡ record { refusal = e; place = at } → (turned : Turned) → turned ≡ stopping (number_of e) → ShowsTurn k block at (Err x) t turned
+stop_told k block at t e x q turned h = rw q (stop_shown k block at t e turned h)
 
 -- JCAMP-CS
 module _ (st : State) (fs : List Bytes) (b : Bool) (e : b ≡ is_version fs) where
@@ -85,12 +95,12 @@ listed_as p q n y s h a e i j =
 pub listed_still : (p q : Progress) (s : Structure) → Listed p s → q.atoms ≡ p.atoms → ((l : ListOf) → count_of l q ≡ count_of l p) → q.id ≡ p.id → q.handed ≡ p.handed → Listed q s
 listed_still p q s h a e i j = listed_as p q s.id s.handed s h a e (h.id ∙ sym i) (h.handed ∙ sym j)
 
-module _ (fs : List Bytes) (r : Answered) (s : ShowsId fs r) where
-  pub id_good_lem : (n : ℕ) → r ≡ Id.Value n → ((st : State) → id_turn st fs ≡ going (with_body st (with_id n st.body))) × (n ≤ 999999)
+module _ (fs : List Bytes) (r : Result ℕ Refusal) (s : ShowsId fs r) where
+  pub id_good_lem : (n : ℕ) → r ≡ Ok n → ((st : State) → id_turn st fs ≡ going (with_body st (with_id n st.body))) × (n ≤ 999999)
   id_good_lem n e = rw e at s
 
-  pub id_bad : (n : ℕ) → r ≡ Id.Stop n → (st : State) → id_turn st fs ≡ stopping n
-  id_bad n e = rw e at s
+  pub id_bad : (a : Refusal) → r ≡ Err a → (st : State) → id_turn st fs ≡ stopping (number_of a)
+  id_bad a e = rw e at s
 
 pub id_bounded : (n size : ℕ) (p : Progress) → n ≤ 999999 → Bounded size p → Bounded size (with_number n p)
 id_bounded n size p k h = record {
@@ -121,38 +131,37 @@ id_shown n k block at p t st h = record {
 }
 
 -- MOLFORM
-abbrev pub with_part : Part → Progress → Progress
+err-ne-ok : (e : Refusal) (u : Unit {0}) → ◌≡◌ {A = Verdict} (Err e) (Ok u) → ⊥
+err-ne-ok e u q = let z : ◌≡◌ {A = ℕ} 0 1 = cc in omega arith
+
+abbrev pub with_part : Field → Progress → Progress
 with_part x p = altered p.running p.top p.title p.origin p.owner x p.atoms p.id p
 
-turn_refused : (n : ℕ) (t : Turned) → (n ≡ 0 → ⊥) → turn_of n t ≡ stopping n
-turn_refused zero t h = absurd (h refl)
-turn_refused (suc n) t h = refl
-
-pub formula_refused : (k : ℕ) (st : State) (o : Option (List Told)) (n : ℕ) → n ≡ formula_verdict k o → (n ≡ 0 → ⊥) → formula_turn k st o ≡ stopping n
-formula_refused k st o n e h = formula_turn_lem k st o ∙ ap (λ (m : ℕ). turn_of m (going (with_formula st (formula_entries k o)))) (sym e) ∙ turn_refused n (going (with_formula st (formula_entries k o))) h
+pub formula_refused : (k : ℕ) (st : State) (o : Option (List Told)) (r : Verdict) (e : Refusal) → r ≡ formula_verdict k o → r ≡ Err e → formula_turn k st o ≡ stopping (number_of e)
+formula_refused k st o r e q h = formula_turn_lem k st o ∙ ap (λ (m : Verdict). turn_of m (going (with_formula st (formula_entries k o)))) (sym q ∙ h)
 
 entries_same : (k : ℕ) (o : Option (List Told)) → formula_entries k o ≡ entries_from k o
-entries_same k none = refl
-entries_same k (some cs) = refl
+entries_same k None = refl
+entries_same k (Some cs) = refl
 
-pub formula_taken : (k : ℕ) (st : State) (o : Option (List Told)) (n : ℕ) → n ≡ formula_verdict k o → n ≡ 0 → formula_turn k st o ≡ going (with_formula st (entries_from k o))
-formula_taken k st o n e h =
-    formula_turn_lem k st o ∙ ap (λ (m : ℕ). turn_of m (going (with_formula st (formula_entries k o)))) (sym e ∙ h) ∙ ap (λ es. going (with_formula st es)) (entries_same k o)
+pub formula_taken : (k : ℕ) (st : State) (o : Option (List Told)) (r : Verdict) → r ≡ formula_verdict k o → r ≡ Ok tt → formula_turn k st o ≡ going (with_formula st (entries_from k o))
+formula_taken k st o r e h =
+    formula_turn_lem k st o ∙ ap (λ (m : Verdict). turn_of m (going (with_formula st (formula_entries k o)))) (sym e ∙ h) ∙ ap (λ es. going (with_formula st es)) (entries_same k o)
 
-verdict_parts : (f o : Bool) → verdict_of f o ≡ 0 → (f ≡ true) × (o ≡ false)
-verdict_parts false o e = absurd (omega arith)
-verdict_parts true true e = absurd (omega arith)
+verdict_parts : (f o : Bool) → verdict_of f o ≡ Ok tt → (f ≡ true) × (o ≡ false)
+verdict_parts false o e = absurd (err-ne-ok _ _ e)
+verdict_parts true true e = absurd (err-ne-ok _ _ e)
 verdict_parts true false e = (refl, refl)
 
-taken_fine : (k : ℕ) (v : Bytes) (o : Option (List Told)) → 1 ≤ k → formula_shape v ≡ o → formula_verdict k o ≡ 0 → all (entry_fine k) (entries_from k o) ≡ true
+taken_fine : (k : ℕ) (v : Bytes) (o : Option (List Told)) → 1 ≤ k → formula_shape v ≡ o → formula_verdict k o ≡ Ok tt → all (entry_fine k) (entries_from k o) ≡ true
 unfolding entries_verdict
-taken_fine k v none h e f = absurd (omega arith)
-taken_fine k v (some cs) h e f = let g = verdict_parts (all counted_in cs) (any (λ c. unknown k c.symbol) cs) f in formula_fine_lem k h v cs e g.0 g.1
+taken_fine k v None h e f = absurd (err-ne-ok _ _ f)
+taken_fine k v (Some cs) h e f = let g = verdict_parts (all counted_in cs) (any (λ c. unknown k c.symbol) cs) f in formula_fine_lem k h v cs e g.0 g.1
 
-pub formula_shown : (k : ℕ) (block : Bytes) (at from to n : ℕ) (p : Progress) (t : List ℕ) (st : State) → 1 ≤ k → n ≡ formula_verdict k (formula_shape (part_of block from to)) → n ≡ 0 → Shows k block at p t st
+pub formula_shown : (k : ℕ) (block : Bytes) (at from to : ℕ) (r : Verdict) (p : Progress) (t : List ℕ) (st : State) → 1 ≤ k → r ≡ formula_verdict k (formula_shape (part_of block from to)) → r ≡ Ok tt → Shows k block at p t st
     → Shows k block at (with_part (record { from = from; to = to }) p) t (with_formula st (entries_from k (formula_shape (part_of block from to))))
 unfolding laid
-formula_shown k block at from to n p t st low e z h = record {
+formula_shown k block at from to r p t st low e z h = record {
   place = h.place;
   running = h.running;
   top = h.top;
@@ -179,7 +188,7 @@ formula_bounded size from to p a b h = record {
 }
 
 -- THE RUNNING TEXT
-module _ (c : ℕ) (x : Part) (p : Progress) where
+module _ (c : ℕ) (x : Field) (p : Progress) where
   pub text_title : c ≡ 1 → text_put c x p ≡ with_texts x p.origin p.owner p
   unfolding text_put
   text_title e = rw (eq-eqb c 1 e, text_put)

@@ -1,6 +1,6 @@
 -- What the functions of one line promise: what a reading goes by, a text's part, a label line's turn. Document 01, "Lines and labels"
 -- and "Rows". Assumes nothing.
-use Rattle.std.specs.Prelude.{ℕ, ◌≤◌, ◌≡◌, Bool, true, false, ◌&&◌, not, [], ◌∷◌, eqb, ltb}
+use Rattle.std.specs.Prelude.{ℕ, ◌≤◌, ◌≡◌, Bool, true, false, ◌&&◌, not, [], ◌∷◌, eqb, ltb, Result, IfOk}
 use Rattle.lists.specs.Lists.{all}
 use Rattle.format.specs.Bytes.{Bytes}
 use Rattle.format.specs.Labels.{Label, misplaced}
@@ -8,10 +8,9 @@ use Rattle.format.specs.Coordinates.{exceeds}
 use Rattle.format.specs.Structure.{entries_of, agree}
 use Rattle.format.specs.Reading.{Rules, State, Turn, Go, if◌stop◌else◌, over, opened, partly, value_turn}
 use Rattle.gather.specs.Progress.{altered}
-use Rattle.gather.specs.declared.progress.Part.{Part}
+use Rattle.fields.specs.declared.Field.{Field}
 use Rattle.gather.specs.declared.progress.Progress.{Progress}
-use Rattle.gather.specs.declared.progress.Turn.{Turn as Answered}
-use Rattle.gather.specs.declared.progress.Turn.TheVariants as A
+use Rattle.format.specs.declared.refusal.Refused.{Refused}
 use Rattle.judgement.specs.declared.rules.Rules.{Rules as Given}
 
 abbrev pub rules_of : Given → Rules
@@ -23,19 +22,17 @@ pub record Ruled (u : Given) : Type 0 where
   pub high : u.last ≤ 103
 
 -- an answer that leaves the progress as it is, or leaves the record that runs
-abbrev pub KeptTurn : Progress → Answered → Type 0
-KeptTurn p (A.Go q) = q ≡ p
-KeptTurn p (A.Stop n at) = Unit {0}
+abbrev pub KeptTurn : Progress → Result Progress Refused → Type 0
+KeptTurn p r = IfOk r (λ q. q ≡ p)
 
-abbrev pub SameRunning : Progress → Answered → Type 0
-SameRunning p (A.Go q) = q.running ≡ p.running
-SameRunning p (A.Stop n at) = Unit {0}
+abbrev pub SameRunning : Progress → Result Progress Refused → Type 0
+SameRunning p r = IfOk r (λ q. q.running ≡ p.running)
 
-abbrev pub with_texts : (title origin owner : Part) → Progress → Progress
+abbrev pub with_texts : (title origin owner : Field) → Progress → Progress
 with_texts title origin owner p = altered p.running p.top title origin owner p.formula p.atoms p.id p
 
 -- the running text is the part x: the title where the code is 1, the origin where it is 3, else the owner
-unfoldable pub text_put : (code : ℕ) → Part → Progress → Progress
+unfoldable pub text_put : (code : ℕ) → Field → Progress → Progress
 text_put c x p =
     elim (eqb c 1) [
       | true ↦ with_texts x p.origin p.owner p

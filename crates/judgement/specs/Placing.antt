@@ -27,7 +27,6 @@ pub record Placed (u : Rules) (k : ℕ) (block : Bytes) (at place : ℕ) (p : Pr
   pub goes : read_lines u st (cut (drop at block)) ≡ read_lines u state (cut (drop place block))
 
 pub record RowsPlaced (block : Bytes) (at top atoms : ℕ) (before after : List ℕ) (store₀ store : List ℤ) (r : ℕ) : Type 0 where
-  pub long : length after ≡ 2973
   pub stores : length store ≡ length store₀
   pub low : at ≤ r
   pub high : at ≤ length block → r ≤ length block

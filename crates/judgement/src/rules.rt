@@ -10,4 +10,10 @@ pub struct Rules {
 impl Rules {
     // "Symbols are those of elements 1 (H) to 103 (Lr)."
     pub const ELEMENTS: u32 = 103;
+
+    // All of them, and the totals tested.
+    pub const TODAY: Rules = Rules {
+        last: Self::ELEMENTS,
+        totals: true,
+    };
 }

@@ -1,4 +1,5 @@
 // The labels seen so far and their order: document 01, "Lines and labels"; document 02, L2 and L4. 18 numbers by code, 1 for a label that was seen.
+// Each function asks for their length: a part of an array is a slice, and as `&[u32; 18]` every call would take apart an Option whose None no scratch gives.
 ghost use Rattle.std.specs.Prelude.{◌≡◌, ◌||◌, not, List, [], ◌∷◌, ◌-◌, ◌*◌, ◌/◌, ◌%◌, ◌^◌, ◌<◌, length};
 ghost use Rattle.lists.specs.Lists.{any};
 ghost use Rattle.format.specs.Labels.{Label, known, misplaced};
@@ -6,6 +7,11 @@ ghost use Rattle.format.specs.Reading.{noted, lacks, partly};
 ghost use Rattle.labels.specs.ShownLines.{by_code};
 ghost use Rattle.sorted.specs.Regions.{seen_from, top_of};
 
+use gather::codes::{
+    MAX_XYZ, MOLFORM, ORIGIN, OWNER, SKIPPED, STEREOMOLECULE, VERSION, XYZ, XYZ_FACTOR,
+};
+
+// By place, a number for each code: the labels' region of the lent scratch has them so (sorted/scratch.rt).
 // Where the interval of each label begins and ends, four bits a code; b must follow a where a's interval ends before b's begins. One number, since a table would be
 // laid out anew at each use; it has the bits of the codes 0 to 15, and the codes 16 and 17, XYZ and STEREOMOLECULE, go by those of 14 and 15, whose intervals are the
 // same.
@@ -55,7 +61,7 @@ pub fn note(seen: &mut [u32], top: u32, code: usize) -> u32
     ensures { (length seen.new ≡ 18) × ((labels : List Label) → seen.old ≡ seen_from 18 0 labels → top ≡ top_of labels →
         (seen.new ≡ seen_from 18 0 (noted code (by_code code known) labels)) × (result ≡ top_of (noted code (by_code code known) labels))) }
 {
-    if code == 0 {
+    if code == SKIPPED as usize {
         return top;
     }
     seen[code] = 1;
@@ -71,16 +77,16 @@ pub fn lacking(seen: &[u32]) -> bool
     requires { length seen.now ≡ 18 }
     ensures { (labels : List Label) → seen.now ≡ seen_from 18 0 labels → result ≡ any (lacks labels) (2 ∷ 3 ∷ 4 ∷ 5 ∷ []) }
 {
-    if seen[2] == 0 {
+    if seen[VERSION as usize] == 0 {
         return true;
     }
-    if seen[3] == 0 {
+    if seen[ORIGIN as usize] == 0 {
         return true;
     }
-    if seen[4] == 0 {
+    if seen[OWNER as usize] == 0 {
         return true;
     }
-    seen[5] == 0
+    seen[MOLFORM as usize] == 0
 }
 
 // 41 "one or two of the three labels present without the rest": MAX_XYZ, XYZ_FACTOR, XYZ (document 02, L2). All three numbers are read first: no branch stands between.
@@ -88,9 +94,9 @@ pub fn partly(seen: &[u32]) -> bool
     requires { length seen.now ≡ 18 }
     ensures { (labels : List Label) → seen.now ≡ seen_from 18 0 labels → result ≡ partly labels (14 ∷ 15 ∷ 16 ∷ []) }
 {
-    let greatest = seen[14];
-    let factor = seen[15];
-    let rows = seen[16];
+    let greatest = seen[MAX_XYZ as usize];
+    let factor = seen[XYZ_FACTOR as usize];
+    let rows = seen[XYZ as usize];
     if factor != greatest {
         return true;
     }
@@ -105,5 +111,5 @@ pub fn unanswered(seen: &[u32], handed: bool) -> bool
     if handed {
         return false;
     }
-    seen[17] != 0
+    seen[STEREOMOLECULE as usize] != 0
 }

@@ -6,68 +6,49 @@ ghost use Rattle.format.specs.Rows.{field};
 ghost use Rattle.format.specs.Reading.{only_field};
 ghost use Rattle.judgement.specs.Values.{ShowsId};
 
-use fields::{Field, next_field};
+use fields::next_field;
+use format::refusal::Refusal;
 use lines::blank;
-use numbers::{Numeral, number};
+use numbers::number;
 
-// Whether the line has one field alone, and it is these three bytes.
-fn is_only(line: &[u8], first: u8, second: u8, third: u8) -> bool
-    ensures { result ≡ same (field 0 (fields line.now)) (first ∷ second ∷ third ∷ []) && is_nil (drop 1 (fields line.now)) }
+// Whether the line has one field alone, and it is this word.
+fn is_only(line: &[u8], word: &[u8]) -> bool
+    ensures { result ≡ same (field 0 (fields line.now)) word.now && is_nil (drop 1 (fields line.now)) }
 {
-    let word = next_field(line, 0);
-    let from = word.from;
-    let to = word.to;
-    if to - from != 3 {
+    let first = next_field(line, 0);
+    if &line[first.from..first.to] != word {
         return false;
     }
-    if line[from] != first {
-        return false;
-    }
-    if line[from + 1] != second {
-        return false;
-    }
-    if line[from + 2] != third {
-        return false;
-    }
-    blank(&line[to..])
+    blank(&line[first.to..])
 }
 
 // "JCAMP-CS: `3.7` only."
 pub fn is_version(line: &[u8]) -> bool
     ensures { result ≡ same (field 0 (fields line.now)) (bytes "3.7") && is_nil (drop 1 (fields line.now)) }
 {
-    is_only(line, b'3', b'.', b'7')
+    is_only(line, b"3.7")
 }
 
 // STEREOMOLECULE: "its only value is `YES`".
 pub fn is_yes(line: &[u8]) -> bool
     ensures { result ≡ same (only_field (fields line.now)) (bytes "YES") }
 {
-    is_only(line, b'Y', b'E', b'S')
-}
-
-// A block id, or the refusal's number.
-#[derive(Clone, Copy)]
-pub enum BlockId {
-    Value(u32),
-    Stop(u32),
+    is_only(line, b"YES")
 }
 
 // "BLOCK_ID: one unsigned number, 1 to 999,999."
-pub fn block_id(line: &[u8]) -> BlockId
+pub fn block_id(line: &[u8]) -> Result<u32, Refusal>
     ensures { ShowsId (fields line.now) result }
 {
     let word = next_field(line, 0);
-    let from = word.from;
-    let to = word.to;
-    let Numeral::Value(id) = number(&line[from..to]) else {
-        return BlockId::Stop(9);
+    let Some(id) = number(&line[word.from..word.to]) else {
+        return Err(Refusal::Shape);
     };
-    if !blank(&line[to..]) {
-        return BlockId::Stop(9);
+    if !blank(&line[word.to..]) {
+        return Err(Refusal::Shape);
     }
     if id == 0 {
-        return BlockId::Stop(10);
+        return Err(Refusal::Range);
     }
-    BlockId::Value(id)
+    Ok(id)
 }

@@ -1,6 +1,6 @@
 // The records of a block's geometry: document 02, L2. Their numbers stand in the last region of the scratch. The rows of XYZ are kept in a lent store until END, since
 // XYZ_FACTOR may stand behind them.
-ghost use Rattle.std.specs.Prelude.{◌≡◌, ℕ, length};
+ghost use Rattle.std.specs.Prelude.{ℕ};
 ghost use Rattle.format.specs.Bytes.{Bytes, fields};
 ghost use Rattle.format.specs.Reading.{State, xyz_value};
 ghost use Rattle.geometry.specs.LineNoted.{record_of};
@@ -10,38 +10,47 @@ ghost use Rattle.judgement.specs.Lines.{KeptTurn, geometry_end};
 ghost use Rattle.judgement.specs.Placing.{RowsPlaced};
 
 use crate::seen::partly;
-use gather::progress::{Progress, Turn};
+use format::refusal::{Refusal, Refused};
+use gather::progress::Progress;
 use geometry::latest::keep_latest;
-use geometry::line::{Noted, geometry_line};
+use geometry::line::geometry_line;
 use geometry::run::xyz_run;
 use geometry::sizes::exceeds;
 use sorted::scratch::Scratch;
 
 // The value of MAX_XYZ (14) or XYZ_FACTOR (15), or a row of XYZ (16), without its comment.
-pub fn geometry_turn(line: &[u8], at: usize, code: u32, p: Progress, scratch: &mut [u32]) -> Turn
-    requires { (length scratch.old ≡ 2973) × Counted p }
-    ensures { (length scratch.new ≡ 2973) × KeptTurn p result × ((k : ℕ) (block : Bytes) (st : State) → Shows k block at p scratch.old st →
+pub fn geometry_turn(
+    line: &[u8],
+    at: usize,
+    code: u32,
+    p: Progress,
+    scratch: &mut [u32; Scratch::SIZE],
+) -> Result<Progress, Refused>
+    requires { Counted p }
+    ensures { KeptTurn p result × ((k : ℕ) (block : Bytes) (st : State) → Shows k block at p scratch.old st →
         ShowsTurn k block at result scratch.new (xyz_value (record_of code) st (fields line.now))) }
 {
     let region = &mut scratch[Scratch::FIRST_GEOMETRY..Scratch::SIZE];
-    match geometry_line(line, at, code, p.atoms, region) {
-        Noted::Kept => Turn::Go(p),
-        Noted::Refused(number, place) => Turn::Stop(number, place),
-    }
+    geometry_line(line, at, code, p.atoms, region)?;
+    Ok(p)
 }
 
 // The last tests of END: 41 "one or two of the three labels present without the rest", 42 "a value above MAX_XYZ".
-pub fn geometry_end(at: usize, p: Progress, scratch: &[u32]) -> Turn
-    requires { (length scratch.now ≡ 2973) × Counted p }
+pub fn geometry_end(
+    at: usize,
+    p: Progress,
+    scratch: &[u32; Scratch::SIZE],
+) -> Result<Progress, Refused>
+    requires { Counted p }
     ensures { KeptTurn p result × ((k : ℕ) (block : Bytes) (st : State) → Shows k block at p scratch.now st → ShowsTurn k block at result scratch.now (geometry_end st)) }
 {
     if partly(&scratch[Scratch::FIRST_LABEL..Scratch::FIRST_GEOMETRY]) {
-        return Turn::Stop(41, at);
+        return Err(Refusal::PartGeometry.at(at));
     }
     if exceeds(&scratch[Scratch::FIRST_GEOMETRY..Scratch::SIZE]) {
-        return Turn::Stop(42, at);
+        return Err(Refusal::AboveGreatest.at(at));
     }
-    Turn::Go(p)
+    Ok(p)
 }
 
 // The rows of XYZ behind one of its lines: the line's own row into the store, then the quick rows from `at` on, `atoms` atoms listed; none before the first label. The
@@ -51,10 +60,9 @@ pub fn xyz_rows(
     at: usize,
     top: u32,
     atoms: usize,
-    scratch: &mut [u32],
+    scratch: &mut [u32; Scratch::SIZE],
     store: &mut [i32],
 ) -> usize
-    requires { length scratch.old ≡ 2973 }
     ensures { RowsPlaced block.now at top atoms scratch.old scratch.new store.old store.new result }
 {
     keep_latest(&scratch[Scratch::FIRST_GEOMETRY..Scratch::SIZE], store);

@@ -7,26 +7,25 @@ ghost use Rattle.gather.specs.Shows.{Shows, ShowsTurn};
 ghost use Rattle.judgement.specs.Lines.{SameRunning};
 
 use crate::values::is_yes;
-use gather::progress::{Progress, Turn};
+use format::refusal::{Refusal, Refused};
+use gather::progress::Progress;
 use lines::blank;
 
 // The record's line without its comment, on the label line or behind it: 9 "another value or a second row".
-pub fn yes_turn(line: &[u8], at: usize, p: Progress) -> Turn
+pub fn yes_turn(line: &[u8], at: usize, p: Progress) -> Result<Progress, Refused>
     ensures { ((size : ℕ) → Bounded size p → BoundedTurn size result) × SameRunning p result × ((k : ℕ) (block : Bytes) (t : List ℕ) (st : State) → Shows k block at p t st →
         ShowsTurn k block at result t (yes_line st (fields line.now))) }
 {
     if blank(line) {
-        return Turn::Go(p);
+        return Ok(p);
     }
     if p.handed {
-        return Turn::Stop(9, at);
+        return Err(Refusal::Shape.at(at));
     }
     if !is_yes(line) {
-        return Turn::Stop(9, at);
+        return Err(Refusal::Shape.at(at));
     }
-    let mut next = p;
-    next.handed = true;
-    Turn::Go(next)
+    Ok(Progress { handed: true, ..p })
 }
 
 // 13 "YES beside any centre or pair row".

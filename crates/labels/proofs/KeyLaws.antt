@@ -293,9 +293,3 @@ known_keyed = (refl, refl, refl, (refl, refl, refl, (refl, refl, refl, (refl, re
 -- the rule: a label is looked up by its key
 pub lookup_key : (s : Bytes) → lookup (normal s) known ≡ by_code (place_of_key 1 (key_of 0 s) keys) known
 lookup_key s = look_key 1 known keys (normal s) (omega arith) known_keyed ∙ ap (λ (k : ℕ). by_code (place_of_key 1 k keys) known) (sym (key_name 0 s))
-
--- a key that is none of the seventeen
-pub keyless : (key : ℕ)
-    → (key ≡ 21287301 → ⊥) → (key ≡ 10839572595 → ⊥) → (key ≡ 522493230 → ⊥) → (key ≡ 16496818 → ⊥) → (key ≡ 14474755661 → ⊥) → (key ≡ 56351925876 → ⊥) → (key ≡ 85299963508 → ⊥) → (key ≡ 109103333 → ⊥) → (key ≡ 19365399596 → ⊥) → (key ≡ 707261042578116786 → ⊥) → (key ≡ 690684612314418 → ⊥) → (key ≡ 2565975332 → ⊥) → (key ≡ 5572 → ⊥) → (key ≡ 438068026 → ⊥) → (key ≡ 27275392307698 → ⊥) → (key ≡ 25402 → ⊥) → (key ≡ fourteen_letters → ⊥) → place_of_key 1 key keys ≡ 0
-unfolding place_of_key keys
-keyless key a b c d e f g h i j k l m n o p q = rw (ne_eqb key 21287301 a, ne_eqb key 10839572595 b, ne_eqb key 522493230 c, ne_eqb key 16496818 d, ne_eqb key 14474755661 e, ne_eqb key 56351925876 f, ne_eqb key 85299963508 g, ne_eqb key 109103333 h, ne_eqb key 19365399596 i, ne_eqb key 707261042578116786 j, ne_eqb key 690684612314418 k, ne_eqb key 2565975332 l, ne_eqb key 5572 m, ne_eqb key 438068026 n, ne_eqb key 27275392307698 o, ne_eqb key 25402 p, ne_eqb key fourteen_letters q, place_of_key)

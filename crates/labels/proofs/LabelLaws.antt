@@ -1,8 +1,8 @@
 -- A line's label read on from a place with the key so far, and what a line of a code is. Serves document 01, "Lines and labels" ("A label line starts with `##` in
 -- its first column; the label runs to the first `=`"). Assumes nothing.
 use Prim.Native.Nat.{ℕ, suc, ◌+◌, ◌≤◌, ◌<◌}
-use mathlib.Core.Path.{◌≡◌, refl, sym, ap, ◌∙◌}
-use mathlib.Core.Bool.{Bool, true, false}
+use mathlib.Core.Path.{◌≡◌, refl, sym, ap, ap₂, ◌∙◌}
+use mathlib.Core.Bool.{Bool, true, false, ◌&&◌, and-true}
 use mathlib.Core.Logic.{◌⊎◌, inl, inr}
 use mathlib.Core.List.{List, [], ◌∷◌}
 use native.Mathlib.Numerals.{add-one}
@@ -11,14 +11,15 @@ use lib.ListN.{length, get_or, drop, drop_of_length-le}
 use lib.Seq.{drop-cons}
 use lib.Dec.{eqb}
 use borrow.Author.Tests.{eq-eqb, ne_eqb, eqb-true}
-use Rattle.lists.proofs.Bools.{and_left_false, and_right_false, eqb_symm}
-use Rattle.format.specs.Bytes.{Bytes, hash, is_label}
+use Rattle.std.specs.List.{starts_with}
+use Rattle.lists.proofs.Bools.{eqb_symm}
+use Rattle.format.specs.Bytes.{Bytes, is_label}
 use Rattle.format.specs.Labels.{Parts, NoEquals, Parted, longer, parts, Label, label, known, lookup, Line, Plain, Unparted, Labelled, parts_line, line_of, has_code, title_line, end_line}
-use Rattle.format.proofs.ByteLaws.{parts_hit, parts_miss, label_at, label_at_end}
+use Rattle.format.proofs.ByteLaws.{parts_hit, parts_miss}
 use Rattle.labels.specs.declared.LineKind.{LineKind}
 use Rattle.labels.specs.declared.LineKind.TheVariants as K
 use Rattle.labels.specs.Keys.{next_key, key_of, keys, place_of_key}
-use Rattle.labels.specs.ShownLines.{by_code, shown_line, ShowsLine}
+use Rattle.labels.specs.ShownLines.{by_code, shown_line, code_shown, ShowsLine}
 use Rattle.labels.proofs.KeyLaws.{lookup_key, code_hit, code_miss}
 
 -- ON FROM A PLACE
@@ -52,28 +53,22 @@ pub onward_next : (s : Bytes) (i key next : ℕ) → i < length s → (get_or s 
     → line_of s ≡ onward next (parts (drop (i + 1) s))
 onward_next s i key next h e p q = p ∙ onward_miss s i key h e ∙ ap (λ (k : ℕ). onward k (parts (drop (i + 1) s))) (sym q)
 
--- THE FIRST TWO BYTES
+-- THE FIRST TWO BYTES, as the code tests them
+pub hashes : (l : Bytes) → starts_with eqb l (35 ∷ 35 ∷ []) ≡ is_label l
+hashes [] = refl
+hashes (b ∷ []) = ap (λ t. t && false) (eqb_symm 35 b)
+hashes (b ∷ c ∷ l) = ap₂ ◌&&◌ (eqb_symm 35 b) (and-true (eqb 35 c) ∙ eqb_symm 35 c)
+
+module _ (l : Bytes) (r : Bool) (told : r ≡ starts_with eqb l (35 ∷ 35 ∷ [])) where
+  pub line_plain : r ≡ false → line_of l ≡ Plain
+  unfolding line_of
+  line_plain e = rw (sym (hashes l) ∙ sym told ∙ e, line_of)
+
+  pub line_label : r ≡ true → line_of l ≡ onward 0 (parts (drop 2 l))
+  unfolding line_of
+  line_label e = rw (sym (hashes l) ∙ sym told ∙ e, line_of) (onward_start (parts (drop 2 l)))
+
 module _ (l : Bytes) where
-  line_plain : is_label l ≡ false → line_of l ≡ Plain
-  unfolding line_of
-  line_plain e = rw (e, line_of)
-
-  line_label : is_label l ≡ true → line_of l ≡ parts_line (parts (drop 2 l))
-  unfolding line_of
-  line_label e = rw (e, line_of)
-
-  pub line_short : length l < 2 → line_of l ≡ Plain
-  line_short h = line_plain (label_at_end l 0 (omega arith))
-
-  pub line_first : 2 ≤ length l → (get_or l 0 0 ≡ 35 → ⊥) → line_of l ≡ Plain
-  line_first h e = line_plain (label_at l 0 (omega arith) ∙ and_left_false _ _ (ne_eqb _ _ e))
-
-  pub line_second : 2 ≤ length l → (get_or l 1 0 ≡ 35 → ⊥) → line_of l ≡ Plain
-  line_second h e = line_plain (label_at l 0 (omega arith) ∙ and_right_false (hash (get_or l 0 0)) _ (ne_eqb _ _ e))
-
-  pub line_both : 2 ≤ length l → get_or l 0 0 ≡ 35 → get_or l 1 0 ≡ 35 → line_of l ≡ onward 0 (parts (drop 2 l))
-  line_both h e f = line_label (label_at l 0 (omega arith) ∙ rw (eq-eqb _ _ e, eq-eqb _ _ f)) ∙ onward_start (parts (drop 2 l))
-
   -- ANSWERS
   pub shows_plain : line_of l ≡ Plain → ShowsLine l K.Plain
   shows_plain e = record {
@@ -117,21 +112,17 @@ code_told k c xs p h = go (eqb c k) refl (code_or_none c xs)
     go false e (inl u) = eqb_symm c k ∙ ap (eqb k) (sym u)
     go false e (inr u) = e ∙ sym (ne_eqb k (by_code c xs).code (λ q. omega arith))
 
--- whether an answer has a code
-abbrev code_is : ℕ → LineKind → Bool
-code_is k K.Plain = false
-code_is k K.Unparted = false
-code_is k (K.Labelled c at) = eqb c k
-
-answer_code : (k : ℕ) (l : Bytes) (r : LineKind) → 0 < k → (by_code k known).code ≡ k → code_is k r ≡ has_code k (shown_line l r)
-answer_code k l K.Plain p h = refl
-answer_code k l K.Unparted p h = refl
+-- the code of an answer is that of the line
+answer_code : (k : ℕ) (l : Bytes) (r : LineKind) → 0 < k → (by_code k known).code ≡ k → eqb (code_shown r) k ≡ has_code k (shown_line l r)
+answer_code k l K.Plain p h = ne_eqb 0 k (λ e. omega arith)
+answer_code k l K.Unparted p h = ne_eqb 0 k (λ e. omega arith)
 answer_code k l (K.Labelled c at) p h = code_told k c known p h
 
-pub title_told : (l : Bytes) (r k : LineKind) → ShowsLine l r → r ≡ k → code_is 1 k ≡ title_line l
-unfolding title_line by_code known label
-title_told l r k h e = ap (code_is 1) (sym e) ∙ answer_code 1 l r (omega arith) refl ∙ ap (has_code 1) h.is
+module _ (l : Bytes) (r : LineKind) (h : ShowsLine l r) where
+  pub title_told : eqb (code_shown r) 1 ≡ title_line l
+  unfolding title_line by_code known label
+  title_told = answer_code 1 l r (omega arith) refl ∙ ap (has_code 1) h.is
 
-pub end_told : (l : Bytes) (r k : LineKind) → ShowsLine l r → r ≡ k → code_is 13 k ≡ end_line l
-unfolding end_line by_code known label
-end_told l r k h e = ap (code_is 13) (sym e) ∙ answer_code 13 l r (omega arith) refl ∙ ap (has_code 13) h.is
+  pub end_told : eqb (code_shown r) 13 ≡ end_line l
+  unfolding end_line by_code known label
+  end_told = answer_code 13 l r (omega arith) refl ∙ ap (has_code 13) h.is

@@ -15,6 +15,12 @@ shown_line line K.Plain = Plain
 shown_line line K.Unparted = Unparted
 shown_line line (K.Labelled code at) = Labelled (by_code code known) (drop at line)
 
+-- the code of the label; 0 where the line has none
+abbrev pub code_shown : LineKind → ℕ
+code_shown K.Plain = 0
+code_shown K.Unparted = 0
+code_shown (K.Labelled code at) = code
+
 pub record ShowsLine (line : Bytes) (r : LineKind) : Type 0 where
   pub is : shown_line line r ≡ line_of line
   pub code : (code at : ℕ) → r ≡ K.Labelled code at → code < 18

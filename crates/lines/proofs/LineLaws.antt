@@ -1,23 +1,33 @@
 -- Where a line ends and where its comment starts, by an index: what the loops over one line cite. Serves document 01, "Lines and labels". Assumes nothing.
-use Prim.Native.Nat.{ℕ, zero, suc, ◌+◌, ◌-◌, ◌%◌, ◌≤◌, ◌<◌}
-use mathlib.Core.Path.{◌≡◌, sym, ap, ◌∙◌}
-use mathlib.Core.Bool.{Bool, true, false, ◌&&◌, and-true, and_assoc}
+use Prim.Native.Nat.{ℕ, zero, suc, ◌+◌, ◌-◌, ◌%◌, max, ◌≤◌, ◌<◌}
+use mathlib.Core.Path.{◌≡◌, refl, sym, subst, ap, ◌∙◌}
+use mathlib.Core.Bool.{Bool, true, false, ◌&&◌, cond}
 use mathlib.Core.List.{[], ◌∷◌}
-use native.Mathlib.Nat.{add-zero}
 use native.Mathlib.Numerals.{add-one}
 use native.Mathlib.Omega.{arith}
 use lib.ListN.{length, get_or, take, drop, length-drop, drop_of_length-le}
 use lib.Seq.{drop-cons}
-use lib.Dec.{leb}
-use borrow.Author.Tests.{eq-eqb, ne_eqb, le-leb, leb-true}
+use lib.Dec.{eqb, ltb, leb}
+use borrow.Author.Tests.{lt-ltb, le-ltb, ltb-true, ltb-false, eq-eqb, ne_eqb, le-leb, leb-true, leb-false}
+use Rattle.std.specs.Prelude.{Option, Some, None, unwrap_or}
+use Rattle.std.specs.List.{position_or_len}
 use Rattle.lists.specs.Lists.{all}
-use Rattle.lists.proofs.Bools.{both_ways, and_left_false, and_right_false, or_right}
-use Rattle.lists.proofs.ListLaws.{all_nil, all_cons, all_in, all_out, all_both, all_parts}
-use Rattle.format.specs.Bytes.{Bytes, blank, gap, within, allowed, line_len, head_is, dollar, strip}
+use Rattle.lists.proofs.Bools.{both_ways, and_right_false, or_right}
+use Rattle.lists.proofs.LibraryLaws.{twos}
+use Rattle.lists.proofs.ListLaws.{all_nil, all_in, all_out, all_both, all_parts}
+use Rattle.format.specs.Bytes.{Bytes, blank, gap, within, allowed, line_len, dollar, strip}
 use Rattle.format.proofs.CutLaws.{len_hit, len_miss, len_at_hit, len_at_miss, len_at_end, line_len_le, line_len_pos}
 use Rattle.format.proofs.ByteLaws.{within_true, within_is, strip_two, strip_on, strip_take, strip_le}
-use Rattle.lines.specs.Cuts.{LineEnd, comment, Uncommented}
+use Rattle.lines.specs.Cuts.{LineEnd, Uncommented}
 use Rattle.lines.specs.Looks.{line_from, Looking, CleanEnd}
+
+-- what holds at both ends of a count from a place up to the end of the bytes holds where it stops
+pub at_top : (P : ℕ → Type 0) (a b i : ℕ) → P a → P i → (a ≤ b → i ≤ b) → b ≤ i → P (max a b)
+at_top P a b i p q h k = by (leb a b) refl
+  where
+    by : (t : Bool) → leb a b ≡ t → P (max a b)
+    by true e = let l : a ≤ b = leb-true a b e in let m : i ≡ max a b = omega (arith, h l) in subst P m q
+    by false e = let m : a ≡ max a b = omega (arith, leb-false a b e) in subst P m p
 
 -- THE LINE'S END
 pub ends : (s : Bytes) (at r : ℕ) → r ≡ at + line_len (drop at s) → LineEnd s at r
@@ -29,34 +39,39 @@ ends s at r e = record {
   reach = omega (arith, line_len_le (drop at s), length-drop at s);
 }
 
--- THE COMMENT'S START
-module _ (s : Bytes) (i : ℕ) where
-  pub comment_end : length s ≤ i → comment (drop i s) ≡ false
-  comment_end h = ap comment (drop_of_length-le s h)
+-- THE COMMENT'S START: the first `$$` among each two bytes side by side
+abbrev pub dollars : Bytes → Bool
+dollars w = eqb (length w) 2 && (eqb (get_or w 0 0) 36 && eqb (get_or w 1 0) 36)
 
-  pub comment_other : i < length s → (get_or s i 0 ≡ 36 → ⊥) → comment (drop i s) ≡ false
-  comment_other h e = ap comment (drop-cons s i 0 h) ∙ and_left_false _ _ (ne_eqb _ _ e)
+-- the place of the first that passes, if there is one
+abbrev found : (n k : ℕ) → Option ℕ
+found n k = cond (ltb n k) (Some n) None
 
-  pub comment_last : i < length s → length s ≤ i + 1 → comment (drop i s) ≡ false
-  comment_last h k =
-      let q : head_is dollar (drop (suc i) s) ≡ false = ap (head_is dollar) (drop_of_length-le s {i = suc i} (omega arith)) in
-      ap comment (drop-cons s i 0 h) ∙ and_right_false (dollar (get_or s i 0)) _ q
+found_suc : (n k d : ℕ) → suc (unwrap_or (found n k) d) ≡ unwrap_or (found (1 + n) (suc k)) (suc d)
+found_suc n k d = by (ltb n k) refl
+  where
+    by : (t : Bool) → ltb n k ≡ t → suc (unwrap_or (cond t (Some n) None) d) ≡ unwrap_or (found (1 + n) (suc k)) (suc d)
+    by true e = rw (lt-ltb (1 + n) (suc k) (omega (arith, ltb-true n k e))) (omega arith)
+    by false e = rw (le-ltb (1 + n) (suc k) (omega (arith, ltb-false n k e)))
 
-  pub comment_two : i + 1 < length s → get_or s i 0 ≡ 36 → comment (drop i s) ≡ dollar (get_or s (i + 1) 0)
-  comment_two h e = rw (drop-cons s i 0 (omega arith), eq-eqb _ _ e, drop-cons s (suc i) 0 (omega arith), add-one)
+found_first : (k d : ℕ) → unwrap_or (found 0 (suc k)) d ≡ 0
+found_first k d = rw (lt-ltb 0 (suc k) (omega arith))
 
-  pub strip_hit : i < length s → comment (drop i s) ≡ true → i + length (strip (drop i s)) ≡ i
-  strip_hit h e =
-      let q : (dollar (get_or s i 0) && head_is dollar (drop (suc i) s)) ≡ true = ap comment (sym (drop-cons s i 0 h)) ∙ e in
-      rw (drop-cons s i 0 h, strip_two (get_or s i 0) (drop (suc i) s) q) (add-zero i)
+comment_place : (s : Bytes) → length (strip s) ≡ unwrap_or (found (position_or_len dollars (twos s)) (length (twos s))) (length s)
+unfolding strip
+comment_place [] = refl
+comment_place (b ∷ []) = ap length (strip_on b [] (and_right_false (dollar b) false refl))
+comment_place (b ∷ c ∷ s) = by (dollar b && dollar c) refl (comment_place (c ∷ s))
+  where
+    by : (t : Bool) → (dollar b && dollar c) ≡ t → length (strip (c ∷ s)) ≡ unwrap_or (found (position_or_len dollars (twos (c ∷ s))) (length (twos (c ∷ s)))) (length (c ∷ s))
+        → length (strip (b ∷ c ∷ s)) ≡ unwrap_or (found (position_or_len dollars (twos (b ∷ c ∷ s))) (length (twos (b ∷ c ∷ s)))) (length (b ∷ c ∷ s))
+    by true e ih = rw (strip_two b (c ∷ s) e, e) (sym (found_first (length (twos (c ∷ s))) (length (b ∷ c ∷ s))))
+    by false e ih = rw (strip_on b (c ∷ s) e, e) (ap suc ih ∙ found_suc (position_or_len dollars (twos (c ∷ s))) (length (twos (c ∷ s))) (length (c ∷ s)))
 
-  pub strip_miss : i < length s → comment (drop i s) ≡ false → i + length (strip (drop i s)) ≡ i + 1 + length (strip (drop (i + 1) s))
-  strip_miss h e =
-      let q : (dollar (get_or s i 0) && head_is dollar (drop (suc i) s)) ≡ false = ap comment (sym (drop-cons s i 0 h)) ∙ e in
-      rw (drop-cons s i 0 h, strip_on (get_or s i 0) (drop (suc i) s) q, add-one) (omega arith)
-
-pub uncomments : (s : Bytes) (r : ℕ) → r ≡ length (strip s) → Uncommented s r
-uncomments s r e = record { is = e; part = strip_take s ∙ ap (λ (n : ℕ). take n s) (sym e); high = omega (arith, strip_le s) }
+pub uncomments : (s : Bytes) (r : ℕ) → r ≡ unwrap_or (found (position_or_len dollars (twos s)) (length (twos s))) (length s) → Uncommented s r
+uncomments s r e =
+    let q : r ≡ length (strip s) = e ∙ sym (comment_place s) in
+    record { is = q; part = strip_take s ∙ ap (λ (n : ℕ). take n s) (sym q); high = omega (arith, strip_le s, q) }
 
 -- A LINE OF ALLOWED BYTES, byte by byte
 printed : (b : ℕ) → 32 ≤ b → leb b 126 ≡ true → allowed b ≡ true
@@ -106,26 +121,6 @@ plain_test b l = both_ways (leb ((b + 224) % 256) 94) (within 32 126 b) fore bac
 
     back : within 32 126 b ≡ true → leb ((b + 224) % 256) 94 ≡ true
     back e = let q = within_true 32 126 b e in le-leb ((b + 224) % 256) 94 (omega arith)
-
-module _ (b : ℕ) (before : Bool) where
-  pub plain_out : within 32 126 b ≡ false → false ≡ (before && within 32 126 b)
-  plain_out h = sym (and_right_false before (within 32 126 b) h)
-
-  pub plain_in : within 32 126 b ≡ true → before ≡ (before && within 32 126 b)
-  plain_in h = rw h (sym (and-true before))
-
-module _ (s : Bytes) (i : ℕ) where
-  pub plain_turn : i < length s → (fine next : Bool) → next ≡ (fine && within 32 126 (get_or s i 0)) →
-      (fine && all (within 32 126) (drop i s)) ≡ (next && all (within 32 126) (drop (i + 1) s))
-  plain_turn h fine next e =
-      let rest : Bool = all (within 32 126) (drop (i + 1) s) in
-      let q : all (within 32 126) (drop i s) ≡ (within 32 126 (get_or s i 0) && rest) =
-      ap (all (within 32 126)) (drop-cons s i 0 h) ∙ all_cons (within 32 126) (get_or s i 0) (drop (suc i) s) ∙ rw add-one in
-      ap (λ (b : Bool). fine && b) q ∙ sym (and_assoc fine (within 32 126 (get_or s i 0)) rest) ∙ ap (λ (b : Bool). b && rest) (sym e)
-
-  pub plain_end : length s ≤ i → (fine : Bool) → (fine && all (within 32 126) (drop i s)) ≡ fine
-  plain_end h fine =
-      ap (λ (b : Bool). fine && b) (ap (all (within 32 126)) (drop_of_length-le s h) ∙ all_nil (within 32 126)) ∙ and-true fine
 
 looks_over : (s : Bytes) (at i n j : ℕ) → j ≡ i + n → j ≤ length s → all (within 32 126) (take n (drop i s)) ≡ true → Looking s at i → Looking s at j
 looks_over s at i zero j e h a k = let q : j ≡ i = omega arith in rw q k

@@ -1,10 +1,8 @@
 -- What one pass over a line tells: where it ends, if each byte of it is allowed. Document 01, "Lines and labels". Assumes nothing.
-use Rattle.std.specs.Prelude.{ℕ, ◌+◌, ◌≡◌, true, false, take, drop}
+use Rattle.std.specs.Prelude.{ℕ, ◌+◌, ◌≡◌, true, false, Option, Some, None, take, drop}
 use Rattle.lists.specs.Lists.{all}
 use Rattle.format.specs.Bytes.{Bytes, allowed, line_len}
 use Rattle.lines.specs.Cuts.{LineEnd}
-use Rattle.lines.specs.declared.Looked.{Looked}
-use Rattle.lines.specs.declared.Looked.TheVariants as L
 
 -- the line that starts at `at`
 abbrev pub line_from : Bytes → (at : ℕ) → Bytes
@@ -18,6 +16,7 @@ pub record CleanEnd (s : Bytes) (at r : ℕ) : Type 0 where
   pub end : LineEnd s at r
   pub clean : all allowed (line_from s at) ≡ true
 
-abbrev pub ShowsLooked : Bytes → (at : ℕ) → Looked → Type 0
-ShowsLooked s at (L.End r) = CleanEnd s at r
-ShowsLooked s at L.Wrong = all allowed (line_from s at) ≡ false
+-- where the line ends, or that a byte of it is not allowed
+abbrev pub ShowsLooked : Bytes → (at : ℕ) → Option ℕ → Type 0
+ShowsLooked s at (Some r) = CleanEnd s at r
+ShowsLooked s at None = all allowed (line_from s at) ≡ false

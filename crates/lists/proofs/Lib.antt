@@ -8,3 +8,4 @@ pub mod IndexLaws
 pub mod LexLaws
 pub mod FoldLaws
 pub mod RegionLaws
+pub mod LibraryLaws

@@ -107,11 +107,11 @@ module _ {A : Type 0} where
   -- a relation that never holds
   pub pairs_never : (r : A → A → Bool) → ((x y : A) → r x y ≡ false) → (xs : List A) → pairs r xs ≡ false
   pairs_never r f [] = pairs_nil r
-  pairs_never r f (x ∷ xs) = pairs_neither r x xs (none xs) (pairs_never r f xs)
+  pairs_never r f (x ∷ xs) = pairs_neither r x xs (None xs) (pairs_never r f xs)
     where
-      none : (ys : List A) → any (r x) ys ≡ false
-      none [] = any_nil (r x)
-      none (y ∷ ys) = any_neither (r x) y ys (f x y) (none ys)
+      None : (ys : List A) → any (r x) ys ≡ false
+      None [] = any_nil (r x)
+      None (y ∷ ys) = any_neither (r x) y ys (f x y) (None ys)
 
   -- TWO LISTS
   module _ (eq : A → A → Bool) where

@@ -4,7 +4,8 @@ use Prim.Native.Nat.{ℕ, suc, ◌+◌, ◌≤◌, ◌<◌}
 use mathlib.Core.Path.{◌≡◌, refl, sym, ap, ◌∙◌}
 use mathlib.Core.Bool.{Bool, true, false, ◌&&◌}
 use mathlib.Core.Logic.{◌⊎◌, inl, inr}
-use mathlib.Core.Option.{Option, none, some}
+use Rattle.std.specs.declared.option.Option.{Option}
+use Rattle.std.specs.declared.option.Option.TheVariants.{None, Some}
 use mathlib.Core.List.{List, [], ◌∷◌}
 use native.Mathlib.Omega.{arith}
 use lib.ListN.{length}
@@ -51,8 +52,8 @@ overlap_voids : (ns ms : List ℕ) → is_nil ns ≡ true → is_nil ms ≡ true
 overlap_voids ns ms h g = ap (λ (l : List ℕ). overlap l ms) (nil_is ns h ∙ sym (nil_is ms g)) ∙ overlap_self ms
 
 tells_meet : (s : Bool) (p : Option ℕ) (r q : Row) → tells p r ≡ true → tells p q ≡ true → meets (list_of s) r q ≡ true
-tells_meet s none r q h g = meets_spread s r q ∙ overlap_voids r.atoms q.atoms h g
-tells_meet s (some n) r q h g = meets_spread s r q ∙ overlap_common n r.atoms q.atoms h g
+tells_meet s None r q h g = meets_spread s r q ∙ overlap_voids r.atoms q.atoms h g
+tells_meet s (Some n) r q h g = meets_spread s r q ∙ overlap_common n r.atoms q.atoms h g
 
 pub tells_alone : (s : Bool) (p : Option ℕ) (rs : List Row) → pairs (meets (list_of s)) rs ≡ false → alone (tells p) rs ≡ false
 tells_alone s p rs h = pairs_within (meets (list_of s)) (λ r q. tells p r && tells p q) each rs h
@@ -119,7 +120,7 @@ Unmet from rs n = (m : ℕ) → m < n → front_of (has m) from rs ≡ front_of 
 
 module _ (s : Bool) (from : ℕ) (r : Row) (rs : List Row) (h : InOrder s (r ∷ rs)) (n : ℕ) (one : 1 ≤ from) where
   out : (m : ℕ) → has m r ≡ true → any (has m) rs ≡ false
-  out m e = alone_in (has m) r rs (tells_alone s (some m) (r ∷ rs) h.unmet) e
+  out m e = alone_in (has m) r rs (tells_alone s (Some m) (r ∷ rs) h.unmet) e
 
   before : (m : ℕ) → any (has m) rs ≡ true → Earlier r m
   before m e = earlier_rows s r m rs (ascends_first row_before row_strict r rs h.ascend) (pairs_parts (meets (list_of s)) r rs h.unmet).0 (all_parts rising r rs h.rise).1 e

@@ -9,7 +9,7 @@ use native.Mathlib.Omega.{arith}
 use lib.ListN.{length, get_or, set, length-set}
 use lib.Seq.{get_or-set_same, get_or-set_other}
 use lib.Dec.{eqb, ltb}
-use borrow.Author.Tests.{eqb-true, eqb-false, ne_eqb, lt-ltb, eq-eqb, le-ltb}
+use borrow.Author.Tests.{eqb-true, eqb-false, ne_eqb, lt-ltb, eq-eqb}
 use Rattle.lists.proofs.Bools.{and_both, and_left_false, and_right_false}
 use Rattle.numbering.specs.Numbering.{is_new, next_after, order_after, numbered}
 
@@ -18,11 +18,6 @@ module _ (k : ℕ) (order : List ℕ) where
   pub new_zero : k ≡ 0 → is_new k order ≡ false
   unfolding is_new
   new_zero e = and_left_false (not (eqb k 0)) (ltb k (length order) && eqb (get_or order k 0) 0) (ap not (eq-eqb k 0 e))
-
-  pub new_beyond : length order ≤ k → is_new k order ≡ false
-  unfolding is_new
-  new_beyond h =
-      and_right_false (not (eqb k 0)) (ltb k (length order) && eqb (get_or order k 0) 0) (and_left_false (ltb k (length order)) (eqb (get_or order k 0) 0) (le-ltb k (length order) h))
 
   pub new_numbered : (get_or order k 0 ≡ 0 → ⊥) → is_new k order ≡ false
   unfolding is_new

@@ -2,16 +2,16 @@
 -- Assumes nothing.
 use Prim.Native.Nat.{ℕ, zero, suc, ◌+◌, ◌-◌, ◌≤◌, ◌<◌}
 use mathlib.Core.Path.{◌≡◌, refl, sym, ap, ◌∙◌, subst}
-use mathlib.Core.Bool.{Bool, true, false, not}
+use mathlib.Core.Bool.{Bool, not}
 use mathlib.Core.List.{List, [], ◌∷◌, ◌++◌}
 use native.Mathlib.Omega.{arith}
-use lib.ListN.{length, take, drop, get_or, set}
-use lib.Seq.{drop-cons, take-append-le, drop_at, set_out}
+use lib.ListN.{drop_of_length-le, length, take, drop, get_or, set}
+use lib.Seq.{drop-cons, take-append-le, drop_at}
 use lib.Dec.{eqb, leb}
-use borrow.Author.Tests.{eq-eqb, ne_eqb, le-leb, lt-leb}
+use borrow.Author.Tests.{ne_eqb, le-leb}
 use Rattle.lists.specs.Lists.{filled}
 use Rattle.lists.specs.Order.{sort}
-use Rattle.lists.proofs.Bools.{and_both, and_left_false, and_right_false}
+use Rattle.lists.proofs.Bools.{and_both}
 use Rattle.lists.proofs.PartLaws.{filled_length, filled_take}
 use Rattle.format.specs.Rows.{Row}
 use Rattle.format.specs.Structure.{row_before}
@@ -24,49 +24,17 @@ use Rattle.numbering.specs.Numbering.{is_new, next_after, order_after, numbered,
 use Rattle.numbering.proofs.NumberingLaws.{numbered_cons, numbered_nil}
 use Rattle.numbering.proofs.RenumberLaws.{renumbered}
 
--- ONE ROW, new or not
-module _ (k next : ℕ) (order : List ℕ) where
-  pub row_kept : is_new k order ≡ false → (next ≡ next_after (is_new k order) next) × (order ≡ order_after (is_new k order) k next order)
-  row_kept e = (sym (ap (λ (b : Bool). next_after b next) e), sym (ap (λ (b : Bool). order_after b k next order) e))
-
-  pub row_given : is_new k order ≡ true → (next + 1 ≡ next_after (is_new k order) next) × (set order k next ≡ order_after (is_new k order) k next order)
-  row_given e = let q : next + 1 ≡ suc next = omega arith in (q ∙ sym (ap (λ (b : Bool). next_after b next) e), sym (ap (λ (b : Bool). order_after b k next order) e))
-
 -- THE NUMBERING at an index
-module _ (region : List ℕ) (atoms : ℕ) (fits : atoms ≤ length region) where
-  cells_at : (i : ℕ) → i < atoms → take (atoms - i) (drop i region) ≡ get_or region i 0 ∷ take (atoms - (i + 1)) (drop (i + 1) region)
-  cells_at i h =
-      let e : atoms - i ≡ suc (atoms - (i + 1)) = omega arith in
-      let k : suc i ≡ i + 1 = omega arith in
-      ap (λ (n : ℕ). take n (drop i region)) e ∙ ap (take (suc (atoms - (i + 1)))) (drop-cons region i 0 (omega (arith, fits)))
-      ∙ ap (λ (n : ℕ). get_or region i 0 ∷ take (atoms - (i + 1)) (drop n region)) k
-
-  pub numbered_start : (next : ℕ) (order : List ℕ) → numbered next (take atoms region) order ≡ numbered next (take (atoms - 0) (drop 0 region)) order
-  numbered_start next order = let e : atoms ≡ atoms - 0 = omega arith in ap (λ (n : ℕ). numbered next (take n region) order) e
-
-  pub numbered_step : (i next next' : ℕ) (order order' : List ℕ) → i < atoms → next' ≡ next_after (is_new (get_or region i 0) order) next
-      → order' ≡ order_after (is_new (get_or region i 0) order) (get_or region i 0) next order
-      → numbered next (take (atoms - i) (drop i region)) order ≡ numbered next' (take (atoms - (i + 1)) (drop (i + 1) region)) order'
+module _ (ks : List ℕ) where
+  pub numbered_step : (i next next' : ℕ) (order order' : List ℕ) → i < length ks → next' ≡ next_after (is_new (get_or ks i 0) order) next
+      → order' ≡ order_after (is_new (get_or ks i 0) order) (get_or ks i 0) next order → numbered next (drop i ks) order ≡ numbered next' (drop (i + 1) ks) order'
   numbered_step i next next' order order' h e f =
-      ap (λ (l : List ℕ). numbered next l order) (cells_at i h) ∙ numbered_cons next (get_or region i 0) (take (atoms - (i + 1)) (drop (i + 1) region)) order
-      ∙ ap (λ (n : ℕ). numbered n (take (atoms - (i + 1)) (drop (i + 1) region)) (order_after (is_new (get_or region i 0) order) (get_or region i 0) next order)) (sym e)
-      ∙ ap (numbered next' (take (atoms - (i + 1)) (drop (i + 1) region))) (sym f)
+      let k : suc i ≡ i + 1 = omega arith in
+      ap (λ (l : List ℕ). numbered next l order) (drop-cons ks i 0 h ∙ ap (λ (n : ℕ). get_or ks i 0 ∷ drop n ks) k) ∙ numbered_cons next (get_or ks i 0) (drop (i + 1) ks) order
+      ∙ ap (λ (n : ℕ). numbered n (drop (i + 1) ks) (order_after (is_new (get_or ks i 0) order) (get_or ks i 0) next order)) (sym e) ∙ ap (numbered next' (drop (i + 1) ks)) (sym f)
 
-  pub numbered_end : (i next : ℕ) (order : List ℕ) → atoms ≤ i → numbered next (take (atoms - i) (drop i region)) order ≡ order
-  numbered_end i next order h = let e : atoms - i ≡ 0 = omega arith in ap (λ (n : ℕ). numbered next (take n (drop i region)) order) e ∙ numbered_nil next order
-
--- THE ROW WITHOUT ATOMS
-module _ (v n : ℕ) (order : List ℕ) where
-  pub void_absent : v ≡ 0 → order ≡ with_void v n order
-  unfolding with_void
-  void_absent e = sym (ap (λ (b : Bool). order_after (not b) v n order) (eq-eqb v 0 e))
-
-  pub void_set : (v ≡ 0 → ⊥) → set order v n ≡ with_void v n order
-  unfolding with_void
-  void_set e = sym (ap (λ (b : Bool). order_after (not b) v n order) (ne_eqb v 0 e))
-
-  pub void_beyond : (v ≡ 0 → ⊥) → length order ≤ v → order ≡ with_void v n order
-  void_beyond e h = sym (set_out order v n h) ∙ void_set e
+  pub numbered_end : (i next : ℕ) (order : List ℕ) → length ks ≤ i → numbered next (drop i ks) order ≡ order
+  numbered_end i next order h = ap (λ (l : List ℕ). numbered next l order) (drop_of_length-le ks h) ∙ numbered_nil next order
 
 -- WHAT STANDS IN A REGION
 take_members : (a k n : ℕ) (rs : List Row) → a ≤ k → take a (members_from k n rs) ≡ members_from a n rs
@@ -102,14 +70,6 @@ order_is region order order' order'' atoms rows e f low few s rs len fit is blan
 
 -- A VALUE PUT to its place
 module _ (p v : ℕ) (t : List ℕ) where
-  pub put_none : p ≡ 0 → t ≡ put_at p v t
-  unfolding put_at
-  put_none e = sym (ap (λ (b : Bool). order_after b (p - 1) v t) (and_left_false (not (eqb p 0)) (leb p (length t)) (ap not (eq-eqb p 0 e))))
-
-  pub put_beyond : length t < p → t ≡ put_at p v t
-  unfolding put_at
-  put_beyond h = sym (ap (λ (b : Bool). order_after b (p - 1) v t) (and_right_false (not (eqb p 0)) (leb p (length t)) (lt-leb p (length t) h)))
-
   pub put_is : (p ≡ 0 → ⊥) → p ≤ length t → set t (p - 1) v ≡ put_at p v t
   unfolding put_at
   put_is e h = sym (ap (λ (b : Bool). order_after b (p - 1) v t) (and_both (not (eqb p 0)) (leb p (length t)) (ap not (ne_eqb p 0 e)) (le-leb p (length t) h)))
@@ -124,9 +84,6 @@ unfolding through
 through_cons order i v vs t = refl
 
 module _ (region order : List ℕ) (rows : ℕ) (fits : 256 + rows ≤ length region) where
-  pub through_start : (t : List ℕ) → through order 0 (take rows (drop 256 region)) t ≡ through order 0 (take (rows - 0) (drop (256 + 0) region)) t
-  through_start t = let e : rows ≡ rows - 0 = omega arith in ap (λ (n : ℕ). through order 0 (take n (drop 256 region)) t) e
-
   pub through_step : (i : ℕ) (t t' : List ℕ) → i < rows → t' ≡ put_at (get_or order (i + 1) 0) (get_or region (256 + i) 0) t
       → through order i (take (rows - i) (drop (256 + i) region)) t ≡ through order (i + 1) (take (rows - (i + 1)) (drop (256 + (i + 1)) region)) t'
   through_step i t t' h e =

@@ -4,7 +4,8 @@ use Prim.Native.Nat.{ℕ, zero, suc, ◌+◌, ◌-◌, ◌≤◌, ◌<◌}
 use mathlib.Core.Path.{◌≡◌, refl, sym, ap, ◌∙◌, subst}
 use mathlib.Core.Bool.{Bool, true, false, ◌&&◌, not}
 use mathlib.Core.Logic.{inl}
-use mathlib.Core.Option.{Option, none, some}
+use Rattle.std.specs.declared.option.Option.{Option}
+use Rattle.std.specs.declared.option.Option.TheVariants.{None, Some}
 use mathlib.Core.List.{List, [], ◌∷◌, map}
 use native.Mathlib.Omega.{arith}
 use lib.ListN.{length, get_or, set}
@@ -35,8 +36,8 @@ use Rattle.numbering.proofs.NumberingLaws.{numbered_cons, numbered_nil, Numberin
 
 -- WHAT TELLS a row tells it
 abbrev pub mark_of : List ℕ → Option ℕ
-mark_of [] = none
-mark_of (n ∷ ns) = some n
+mark_of [] = None
+mark_of (n ∷ ns) = Some n
 
 pub mark_tells : (r : Row) → tells (mark_of r.atoms) r ≡ true
 mark_tells r = go r.atoms refl
@@ -125,9 +126,9 @@ module _ (s : Bool) (atoms : ℕ) (rs : List Row) (fit : Fits (list_of s) atoms 
   numberings = record {
     none = λ n. none_front (has n);
     some = λ n. none_back (has n);
-    same = λ n m h e. front_same (has n) (has m) 1 sorted (tells_alone s (some n) sorted in_order_lem.unmet) (tells_alone s (some m) sorted in_order_lem.unmet)
+    same = λ n m h e. front_same (has n) (has m) 1 sorted (tells_alone s (Some n) sorted in_order_lem.unmet) (tells_alone s (Some m) sorted in_order_lem.unmet)
         (sort_any row_before (λ r. has n r && has m r) rs ∙ back_both (has n) (has m) rs (told (has n) h) e);
-    back = λ n m h e. back_same (has n) (has m) rs (tells_alone s (some n) rs fit.apart) (tells_alone s (some m) rs fit.apart)
+    back = λ n m h e. back_same (has n) (has m) rs (tells_alone s (Some n) rs fit.apart) (tells_alone s (Some m) rs fit.apart)
         (sym (sort_any row_before (λ r. has n r && has m r) rs) ∙ front_both (has n) (has m) 1 sorted (omega arith) (sort_any row_before (has n) rs ∙ told_sorted (has n) h) e);
     small = λ n. omega (arith, back_few (has n));
     above = λ n h new. (appears s 1 sorted (omega arith) in_order_lem n (sort_any row_before (has n) rs ∙ told_sorted (has n) h) new).above;
@@ -207,7 +208,7 @@ module _ (s : Bool) (atoms : ℕ) (rs : List Row) (fit : Fits (list_of s) atoms 
       ∙ ap (λ (v : ℕ). set given v (length rs)) (void_back rs)
 
   whole_right : (p : Option ℕ) → get_or whole (back_of (tells p) rs) 0 ≡ front_of (tells p) 1 sorted
-  whole_right none = go (eqb (back_of void rs) 0) refl
+  whole_right None = go (eqb (back_of void rs) 0) refl
     where
       go : (t : Bool) → eqb (back_of void rs) 0 ≡ t → get_or whole (back_of void rs) 0 ≡ front_of void 1 sorted
       go true e =
@@ -218,7 +219,7 @@ module _ (s : Bool) (atoms : ℕ) (rs : List Row) (fit : Fits (list_of s) atoms 
           let a : any void sorted ≡ true = sort_any row_before void rs ∙ told void z in
           ap (λ (l : List ℕ). get_or l (back_of void rs) 0) (whole_some z) ∙ get_or-set_same given (back_of void rs) (length rs) 0 (omega (arith, given_long, back_few void))
           ∙ omega (arith, void_last s 1 sorted in_order_lem a, sort_length row_before rs)
-  whole_right (some n) = go (eqb (back_of void rs) 0) refl
+  whole_right (Some n) = go (eqb (back_of void rs) 0) refl
     where
       away : (back_of void rs ≡ 0 → ⊥) → came n ≡ back_of void rs → ⊥
       away z e = torn (any (λ r. has n r && void r) rs) (back_both (has n) void rs (told (has n) (λ q. z (sym e ∙ q))) e) (has_void n rs)
@@ -278,7 +279,7 @@ module _ (s : Bool) (atoms : ℕ) (rs : List Row) (fit : Fits (list_of s) atoms 
 
   pub renumbered : Renumbered rs (with_void (void_of rs) (length rs) (numbered 1 (members_from atoms 1 rs) (filled 0 65 [])))
   renumbered = record {
-    members = λ n. ap (λ (k : ℕ). get_or whole k 0) (member_back n rs) ∙ whole_right (some n) ∙ sym (with_front 1 n sorted);
+    members = λ n. ap (λ (k : ℕ). get_or whole k 0) (member_back n rs) ∙ whole_right (Some n) ∙ sym (with_front 1 n sorted);
     low = λ i l. (by_bounds i l).0;
     high = λ i l. (by_bounds i l).1;
     values = by_value;

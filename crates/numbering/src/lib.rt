@@ -15,21 +15,17 @@ ghost use Rattle.numbering.specs.Renumbers.{Renumbering};
 use format::Table;
 use sorted::scratch::Scratch;
 
+// 0 is for none in each cell, as in the regions and in the table that they come from and go to.
 // How many numbers an order has: rows are numbered from 1 as they come, and 0 stands for no row.
 const ORDER: usize = Table::CHARGES + 1;
 
 // The row of an atom gets the next number where it has none; the answer is the number for the next such row.
+#[tactic(auto, unfolding(crate::specs::Numbering::is_new))]
 fn number_row(row: usize, next: u32, order: &mut [u32]) -> u32
     requires { next ≤ 1000 }
-    ensures { (length order.new ≡ length order.old) × (result ≤ next + 1) × (result ≡ next_after (is_new row order.old) next) × (order.new ≡ order_after (is_new row order.old) row next order.old) }
+    ensures { (result ≤ next + 1) × (result ≡ next_after (is_new row order.old) next) × (order.new ≡ order_after (is_new row order.old) row next order.old) }
 {
-    if row == 0 {
-        return next;
-    }
-    if order.len() <= row {
-        return next;
-    }
-    if order[row] != 0 {
+    if row == 0 || order.len() <= row || order[row] != 0 {
         return next;
     }
     order[row] = next;
@@ -37,55 +33,46 @@ fn number_row(row: usize, next: u32, order: &mut [u32]) -> u32
 }
 
 // The row without atoms, where there is one, gets the last number.
+#[tactic(auto, unfolding(crate::specs::Numbering::with_void))]
 fn number_void(void: usize, rows: usize, order: &mut [u32])
     requires { rows ≤ 64 }
-    ensures { (length order.new ≡ length order.old) × (order.new ≡ with_void void rows order.old) }
+    ensures { order.new ≡ with_void void rows order.old }
 {
-    if void == 0 {
-        return;
+    if 0 < void && void < order.len() {
+        order[void] = rows as u32;
     }
-    if order.len() <= void {
-        return;
-    }
-    order[void] = rows as u32;
 }
 
 // For each number that a row has as it came, 1 to `rows`, its number in the sorted list.
 fn order_of(region: &[u32], atoms: usize, rows: usize, order: &mut [u32])
     requires { (length region.now ≡ 321) × (length order.old ≡ 65) × (atoms ≤ 256) × (rows ≤ 64) }
-    ensures { (length order.new ≡ 65) × ((s : Bool) (rs : List Row) → length rs ≡ rows → Fits (list_of s) atoms rs → region.now ≡ spread_region rs → order.old ≡ filled 0 65 [] → Renumbered rs order.new) }
+    ensures { (s : Bool) (rs : List Row) → length rs ≡ rows → Fits (list_of s) atoms rs → region.now ≡ spread_region rs → order.old ≡ filled 0 65 [] → Renumbered rs order.new }
 {
-    let mut next: u32 = 1;
-    let mut i = 0;
-    while i < atoms {
-        next = number_row(region[i] as usize, next, order);
-        i += 1;
+    let mut next = 1;
+    let members = &region[..atoms];
+    for member in members {
+        next = number_row(*member as usize, next, order);
     }
     number_void(region[Scratch::WITHOUT_ATOMS] as usize, rows, order);
 }
 
 // A value is put to the place that a number from 1 says.
+#[tactic(auto, unfolding(crate::specs::Numbering::put_at))]
 fn put_at(values: &mut [u32], place: usize, value: u32)
-    ensures { (length values.new ≡ length values.old) × (values.new ≡ put_at place value values.old) }
+    ensures { values.new ≡ put_at place value values.old }
 {
-    if place == 0 {
-        return;
+    if 0 < place && place <= values.len() {
+        values[place - 1] = value;
     }
-    if values.len() < place {
-        return;
-    }
-    values[place - 1] = value;
 }
 
 // The values of the rows, each as value + 100, in the order of the sorted rows.
 fn sorted_values(region: &[u32], order: &[u32], rows: usize, values: &mut [u32])
     requires { (length region.now ≡ 321) × (length order.now ≡ 65) × (length values.old ≡ 64) × (rows ≤ 64) }
-    ensures { (length values.new ≡ 64) × ((rs : List Row) → length rs ≡ rows → region.now ≡ spread_region rs → Renumbered rs order.now → values.old ≡ filled 0 64 [] → values.new ≡ filled 0 64 (map (λ r. coded r.value) (sort row_before rs))) }
+    ensures { (rs : List Row) → length rs ≡ rows → region.now ≡ spread_region rs → Renumbered rs order.now → values.old ≡ filled 0 64 [] → values.new ≡ filled 0 64 (map (λ r. coded r.value) (sort row_before rs)) }
 {
-    let mut i = 0;
-    while i < rows {
+    for i in 0..rows {
         put_at(values, order[i + 1] as usize, region[Table::ATOMS + i]);
-        i += 1;
     }
 }
 
@@ -93,19 +80,12 @@ fn sorted_values(region: &[u32], order: &[u32], rows: usize, values: &mut [u32])
 pub fn renumber(region: &[u32], atoms: usize, rows: usize, order: &mut [u32], values: &mut [u32])
     ensures { Renumbering region.now atoms rows order.old values.old order.new values.new }
 {
-    if region.len() != Scratch::SPREAD {
-        return;
-    }
-    if order.len() != ORDER {
-        return;
-    }
-    if values.len() != Table::CHARGES {
-        return;
-    }
-    if Table::ATOMS < atoms {
-        return;
-    }
-    if Table::CHARGES < rows {
+    if region.len() != Scratch::SPREAD
+        || order.len() != ORDER
+        || values.len() != Table::CHARGES
+        || Table::ATOMS < atoms
+        || Table::CHARGES < rows
+    {
         return;
     }
     order_of(region, atoms, rows, order);

@@ -1,19 +1,20 @@
 -- Printing piece by piece is printing the pieces in one: what is laid first and what is laid behind it are laid together. A form that fits stands at the
 -- buffer's front, and what was behind it stays. Document 01, "Refusal numbers" ("bytes beyond it stay"). Assumes nothing.
-use Prim.Native.Nat.{ℕ, suc, ◌+◌, ◌-◌, ◌≤◌, ◌<◌}
-use mathlib.Core.Path.{◌≡◌, refl, sym, ap, ◌∙◌}
+use Prim.Native.Nat.{ℕ, suc, ◌+◌, ◌≤◌, ◌<◌}
+use mathlib.Core.Path.{◌≡◌, refl, sym, ap, ap₂, ◌∙◌}
 use mathlib.Core.Bool.{Bool, true, false}
-use mathlib.Core.List.{List, [], ◌∷◌, ◌++◌}
-use native.Mathlib.Nat.{zero-add}
+use mathlib.Core.List.{List, [], ◌∷◌, ◌++◌, append_assoc, append-nil}
+use native.Mathlib.Nat.{zero-add, add-zero}
 use native.Mathlib.Numerals.{add-one}
 use native.Mathlib.Omega.{arith}
-use lib.ListN.{length, get_or, set, drop, length-drop, drop_of_length-le}
+use lib.ListN.{length, get_or, set, take, drop, take-append-drop}
 use lib.Dec.{ltb}
-use lib.Seq.{drop-cons, set_out, sets, sets-eq}
+use lib.Seq.{take-suc, set_out, sets, sets-eq, length-sets, length-take-le, take_all, drop-drop}
 use borrow.Author.Tests.{ltb-true, ltb-false, lt-ltb, le-ltb}
-use Rattle.lists.proofs.PartLaws.{flat_nil, flat_cons, flat_append}
+use Rattle.lists.proofs.PartLaws.{flat_nil, flat_cons}
 use Rattle.format.specs.Bytes.{Bytes}
-use Rattle.printing.specs.Printing.{next_place, after, over, Laid, Untouched, Rests, spaced}
+use Rattle.printing.specs.Printing.{next_place, after, over, Laid, Printed, Rests, spaced}
+use Rattle.printing.specs.declared.Sheet.{Sheet}
 
 -- ONE BYTE
 pub next_in : (at : ℕ) → at < 32769 → at + 1 ≡ next_place at
@@ -43,9 +44,6 @@ pub laid_none : {b : Bytes} {at : ℕ} → Laid b at [] b at
 unfolding after over
 laid_none = record { place = refl; laid = refl }
 
-pub untouched : {b : Bytes} {at : ℕ} → Untouched b at b at
-untouched = record { place = refl; same = refl }
-
 pub laid_then : {b b₁ b₂ x y : Bytes} {at r₁ r₂ : ℕ} → Laid b at x b₁ r₁ → Laid b₁ r₁ y b₂ r₂ → Laid b at (x ++ y) b₂ r₂
 laid_then {b} {b₁} {b₂} {x} {y} {at} {r₁} {r₂} p q = record {
   place = q.place ∙ ap (λ k. after k y) p.place ∙ sym (after_append at x y);
@@ -55,42 +53,31 @@ laid_then {b} {b₁} {b₂} {x} {y} {at} {r₁} {r₂} p q = record {
 pub laid_as : {b b' x y : Bytes} {at r : ℕ} → x ≡ y → Laid b at x b' r → Laid b at y b' r
 laid_as {b} {b'} {x} {y} {at} {r} e p = record { place = p.place ∙ ap (after at) e; laid = p.laid ∙ ap (over b at) e }
 
--- TWO BYTES AND THREE that have their places, each set where it stands
-pub laid_pair : {b : Bytes} {x y : ℕ} (at : ℕ) → at < 32768 → Laid b at (x ∷ y ∷ []) (set (set b at x) (at + 1) y) (at + 2)
-laid_pair at h =
-    let q : at + 2 ≡ at + 1 + 1 = omega arith in
-    laid_then (laid_byte refl (next_in at (omega arith))) (laid_byte refl (q ∙ next_in (at + 1) (omega arith)))
+-- ON A SHEET
+pub printed_none : {s : Sheet} → Printed s [] s
+printed_none = record { lent = refl; print = laid_none }
 
-pub laid_three : {b : Bytes} {x y z : ℕ} (at : ℕ) → at < 32767 → Laid b at (x ∷ y ∷ z ∷ []) (set (set (set b at x) (at + 1) y) (at + 2) z) (at + 3)
-laid_three at h =
-    let q : at + 3 ≡ at + 2 + 1 = omega arith in
-    laid_then (laid_pair at (omega arith)) (laid_byte refl (q ∙ next_in (at + 2) (omega arith)))
+pub printed_then : {s s₁ s₂ : Sheet} {x y : Bytes} → Printed s x s₁ → Printed s₁ y s₂ → Printed s (x ++ y) s₂
+printed_then p q = record { lent = q.lent ∙ p.lent; print = laid_then p.print q.print }
 
--- WHAT IS STILL TO BE PRINTED
-pub rest_all : {b whole : Bytes} {at : ℕ} → Rests b at whole b at whole
-rest_all = record { place = refl; laid = refl }
+pub printed_as : {s s' : Sheet} {x y : Bytes} → x ≡ y → Printed s x s' → Printed s y s'
+printed_as e p = record { lent = p.lent; print = laid_as e p.print }
 
-pub rest_as : {b whole now x y : Bytes} {at here : ℕ} → x ≡ y → Rests b at whole now here x → Rests b at whole now here y
-rest_as {b} {whole} {now} {x} {y} {at} {here} e p = record { place = p.place ∙ ap (after here) e; laid = p.laid ∙ ap (over now here) e }
+pub printed_on : {s s₁ s₂ : Sheet} (text : Bytes) (i : ℕ) → i < length text → Printed s (take i text) s₁ → Printed s₁ (get_or text i 0 ∷ []) s₂ → Printed s (take (i + 1) text) s₂
+printed_on text i h p q = printed_as (sym (take-suc text i 0 h) ∙ ap (λ k. take k text) (sym (add-one i))) (printed_then p q)
 
-pub rest_on : {b whole now now' rest x y : Bytes} {at here here' : ℕ} → rest ≡ x ++ y → Laid now here x now' here' → Rests b at whole now here rest → Rests b at whole now' here' y
-rest_on {b} {whole} {now} {now'} {rest} {x} {y} {at} {here} {here'} e l p =
-    let q : Rests b at whole now here (x ++ y) = rest_as e p in
-    record {
-      place = q.place ∙ after_append here x y ∙ ap (λ k. after k y) (sym l.place);
-      laid = q.laid ∙ over_append now here x y ∙ ap (λ k. over (over now here x) k y) (sym l.place) ∙ ap (λ m. over m here' y) (sym l.laid);
-    }
+-- what is still to be printed
+pub rest_all : {s : Sheet} {whole : Bytes} → Rests s whole s whole
+rest_all = record { done = []; parts = refl; printed = printed_none }
 
-pub rest_none : {b whole now rest : Bytes} {at here : ℕ} → rest ≡ [] → Rests b at whole now here rest → Laid b at whole now here
-unfolding after over
-rest_none {b} {whole} {now} {rest} {at} {here} e p =
-    let q : Rests b at whole now here [] = rest_as e p in
-    record { place = sym q.place; laid = sym q.laid }
+pub rest_as : {s s₁ : Sheet} {whole x y : Bytes} → x ≡ y → Rests s whole s₁ x → Rests s whole s₁ y
+rest_as e p = record { done = p.done; parts = p.parts ∙ ap (λ w. p.done ++ w) e; printed = p.printed }
 
--- a text byte by byte
-pub text_on : {b whole now now' : Bytes} {at here here' : ℕ} (text : Bytes) (i : ℕ) → i < length text → Laid now here (get_or text i 0 ∷ []) now' here'
-    → Rests b at whole now here (drop i text) → Rests b at whole now' here' (drop (i + 1) text)
-text_on text i h l p = rest_on (drop-cons text i 0 h ∙ ap (λ k. get_or text i 0 ∷ drop k text) (sym (add-one i))) l p
+pub rest_on : {s s₁ s₂ : Sheet} {whole rest x y : Bytes} → rest ≡ x ++ y → Printed s₁ x s₂ → Rests s whole s₁ rest → Rests s whole s₂ y
+rest_on {x = x} {y = y} e l p = record { done = p.done ++ x; parts = p.parts ∙ ap (λ w. p.done ++ w) e ∙ sym (append_assoc p.done x y); printed = printed_then p.printed l }
+
+pub rest_none : {s s₁ : Sheet} {whole rest : Bytes} → rest ≡ [] → Rests s whole s₁ rest → Printed s whole s₁
+rest_none e p = printed_as (sym (p.parts ∙ ap (λ w. p.done ++ w) e ∙ append-nil p.done)) p.printed
 
 -- A FORM THAT FITS, and one that does not
 after_short : (at : ℕ) (x : Bytes) → at + length x ≤ 32769 → after at x ≡ at + length x
@@ -129,25 +116,36 @@ after_whole x h = after_short 0 x (omega arith) ∙ zero-add (length x)
 pub after_over : (x : Bytes) → 32769 ≤ length x → after 0 x ≡ 32769
 after_over x h = after_long 0 x (omega arith) (omega arith)
 
--- A TEXT THAT FITS, laid without a look at each place
-pub lay_on : {b now now' : Bytes} {at here : ℕ} (text : Bytes) (i : ℕ) → i < length text → here < 32769 → now' ≡ set now here (get_or text i 0)
-    → Rests b at text now here (drop i text) → Rests b at text now' (here + 1) (drop (i + 1) text)
-lay_on {here = here} text i h k e p = text_on text i h (laid_byte e (next_in here k)) p
-
+-- A TEXT THAT DOES NOT PASS THE LONGEST FORM: so many of its bytes as have a place are laid where they stand
 sets_out : (b : Bytes) (at : ℕ) (x : Bytes) → length b ≤ at → sets b at x ≡ b
 sets_out b at [] h = refl
 sets_out b at (c ∷ x) h = ap (λ l. sets l (suc at) x) (set_out b at c h) ∙ sets_out b (suc at) x (omega arith)
 
-pub lay_end : {b now : Bytes} {at here : ℕ} (text : Bytes) (i : ℕ) → here + (length text - i) ≤ 32769 → (i < length text → length now ≤ here)
-    → Rests b at text now here (drop i text) → now ≡ over b at text
-lay_end {b} {now} {at} {here} text i h out p = go (ltb i (length text)) refl
-  where
-    go : (t : Bool) → ltb i (length text) ≡ t → now ≡ over b at text
-    go true e = sym (p.laid ∙ over_short now here (drop i text) (omega (arith, length-drop i text)) ∙ sets_out now here (drop i text) (out (ltb-true i (length text) e)))
-    go false e = (rest_none (drop_of_length-le text (ltb-false i (length text) e)) p).laid
+sets_append : (b : Bytes) (at : ℕ) (x y : Bytes) → sets b at (x ++ y) ≡ sets (sets b at x) (at + length x) y
+sets_append b at [] y = ap (λ k. sets b k y) (sym (add-zero at))
+sets_append b at (c ∷ x) y = let q : suc at + length x ≡ at + suc (length x) = omega arith in sets_append (set b at c) (suc at) x y ∙ ap (λ k. sets (sets (set b at c) (suc at) x) k y) q
 
-pub laid_short : {b b' : Bytes} (at : ℕ) (text : Bytes) → at + length text ≤ 32769 → b' ≡ over b at text → Laid b at text b' (at + length text)
-laid_short at text h e = record { place = sym (after_short at text h); laid = e }
+pub laid_out : (b : Bytes) (at : ℕ) (x : Bytes) → length b ≤ at → at + length x ≤ 32769 → Laid b at x b (at + length x)
+laid_out b at x out h = record { place = sym (after_short at x h); laid = sym (over_short b at x h ∙ sets_out b at x out) }
+
+pub laid_part : {now : Bytes} (b : Bytes) (at n k r : ℕ) (x : Bytes) → r ≡ at + length x → now ≡ take n x → k ≡ n → n ≤ length x → at + n ≤ length b → (n < length x → length b ≤ at + n) → at + length x ≤ 32769
+    → Laid b at x (take at b ++ (now ++ drop k (drop at b))) r
+laid_part {now} b at n k r x end same so low fits out h =
+    record { place = end ∙ sym (after_short at x h); laid = ap₂ (λ w j. take at b ++ (w ++ drop j (drop at b))) same so ∙ sym (over_short b at x h ∙ go (ltb n (length x)) refl) }
+  where
+    front : length (take n x) ≡ n
+    front = length-take-le n x low
+
+    whole : sets b at (take n x) ≡ take at b ++ (take n x ++ drop n (drop at b))
+    whole =
+        sets-eq (take n x) b at (omega (arith, front)) ∙ ap (λ k. take at b ++ take n x ++ drop (at + k) b) front
+        ∙ append_assoc (take at b) (take n x) (drop (at + n) b) ∙ ap (λ w. take at b ++ (take n x ++ w)) (sym (drop-drop n at b))
+
+    go : (t : Bool) → ltb n (length x) ≡ t → sets b at x ≡ take at b ++ (take n x ++ drop n (drop at b))
+    go true e =
+        ap (sets b at) (sym (take-append-drop n x)) ∙ sets_append b at (take n x) (drop n x)
+        ∙ sets_out (sets b at (take n x)) (at + length (take n x)) (drop n x) (omega (arith, length-sets b at (take n x), front, out (ltb-true n (length x) e))) ∙ whole
+    go false e = ap (sets b at) (sym (take_all n x (ltb-false n (length x) e))) ∙ whole
 
 -- WORDS EACH BEHIND A SPACE
 pub spaced_none : spaced [] ≡ []
@@ -157,7 +155,3 @@ spaced_none = flat_nil (λ w. 32 ∷ w)
 pub spaced_more : (w : Bytes) (ws : List Bytes) → spaced (w ∷ ws) ≡ 32 ∷ (w ++ spaced ws)
 unfolding spaced
 spaced_more w ws = flat_cons (λ v. 32 ∷ v) w ws
-
-pub spaced_append : (vs ws : List Bytes) → spaced (vs ++ ws) ≡ spaced vs ++ spaced ws
-unfolding spaced
-spaced_append vs ws = flat_append (λ v. 32 ∷ v) vs ws

@@ -1,8 +1,9 @@
 -- Printing into a lent buffer from a place on: document 01, "Refusal numbers" ("23, the form would pass 32,768 bytes; 22, the buffer is shorter"). A byte is laid
 -- where the buffer has its place, and the place moves on, so that printing into an empty buffer measures. Places stop one beyond the longest form. Assumes nothing.
-use Rattle.std.specs.Prelude.{ℕ, ◌+◌, ◌≡◌, true, false, List, [], ◌∷◌, set, ltb}
+use Rattle.std.specs.Prelude.{ℕ, ◌+◌, ◌≡◌, true, false, List, [], ◌∷◌, ◌++◌, set, ltb}
 use Rattle.lists.specs.Lists.{flat}
 use Rattle.format.specs.Bytes.{Bytes}
+use Rattle.printing.specs.declared.Sheet.{Sheet}
 
 -- the place behind a place
 unfoldable pub next_place : ℕ → ℕ
@@ -27,10 +28,16 @@ pub record Untouched (buffer : Bytes) (at : ℕ) (later : Bytes) (r : ℕ) : Typ
   pub place : r ≡ at
   pub same : later ≡ buffer
 
+-- what is left of a sheet that is printed on: its buffer is still the one that was lent
+pub record Printed (before : Sheet) (form : Bytes) (later : Sheet) : Type 0 where
+  pub lent : later.buffer.ghost_name ≡ before.buffer.ghost_name
+  pub print : Laid before.buffer.now before.at form later.buffer.now later.at
+
 -- what is still to be printed: with it the whole is there
-pub record Rests (buffer : Bytes) (at : ℕ) (whole now : Bytes) (here : ℕ) (rest : Bytes) : Type 0 where
-  pub place : after at whole ≡ after here rest
-  pub laid : over buffer at whole ≡ over now here rest
+pub record Rests (before : Sheet) (whole : Bytes) (now : Sheet) (rest : Bytes) : Type 0 where
+  pub done : Bytes
+  pub parts : whole ≡ done ++ rest
+  pub printed : Printed before done now
 
 -- "one space between fields": words, each behind a space
 unfoldable pub spaced : List Bytes → Bytes

@@ -214,13 +214,15 @@ lent_long from t h k = length-take-le 321 (drop from t) (simp length-drop (omega
 blank_long : (n : ℕ) (t : List ℕ) → t ≡ filled 0 n [] → length t ≡ n
 blank_long n t e = ap length (e ∙ filled_nil 0 n) ∙ length-replicate {A = ℕ} n 0
 
-pub publishes : (table table' : List ℤ) (block : Bytes) (size : ℕ) (p : Progress) (t co₀ cs₀ ro₀ rs₀ co cs ro rs : List ℕ) → length t ≡ 2973 → Bounded size p → co₀ ≡ filled 0 65 [] → cs₀ ≡ filled 0 64 []
-    → ro₀ ≡ filled 0 65 [] → rs₀ ≡ filled 0 64 [] → Renumbering (take 321 (drop 768 t)) p.atoms p.charges co₀ cs₀ co cs
-    → Renumbering (take 321 (drop 1089 t)) p.atoms p.radicals ro₀ rs₀ ro rs → table' ≡ table_out block p t co cs ro rs ++ drop 3856 table → (k : ℕ) (st : State) → Holding k block p t st
-    → k ≤ 103 → table' ≡ encode (finished st.body) (map span_of st.texts) ++ drop 3856 table
+pub publishes : (table table' : List ℤ) (block : Bytes) (size : ℕ) (p : Progress) (t co cs ro rs : List ℕ) → length t ≡ 2973 → Bounded size p
+    → Renumbering (take 321 (drop 768 t)) p.atoms p.charges (filled 0 65 []) (filled 0 64 []) co cs → Renumbering (take 321 (drop 1089 t)) p.atoms p.radicals (filled 0 65 []) (filled 0 64 []) ro rs
+    → table' ≡ table_out block p t co cs ro rs ++ drop 3856 table → (k : ℕ) (st : State) → Holding k block p t st → k ≤ 103
+    → table' ≡ encode (finished st.body) (map span_of st.texts) ++ drop 3856 table
 unfolding rows_of
-publishes table table' block size p t co₀ cs₀ ro₀ rs₀ co cs ro rs long w x y u v f g e k st h b =
+publishes table table' block size p t co cs ro rs long w f g e k st h b =
     let c = w.counted in
+    let u : length (filled 0 65 []) ≡ 65 = blank_long 65 (filled 0 65 []) refl in
+    let v : length (filled 0 64 []) ≡ 64 = blank_long 64 (filled 0 64 []) refl in
     e ∙ ap (λ l. l ++ drop 3856 table)
-    (published k b block size p t st w h co cs ro rs (f (lent_long 768 t long (omega arith)) c.atoms c.charges (blank_long 65 co₀ x) (blank_long 64 cs₀ y) true st.body.charges (h.listed.counts Charges) (h.listed.fits Charges) (at_list k b block size p t st w h Charges) x y)
-    (g (lent_long 1089 t long (omega arith)) c.atoms c.radicals (blank_long 65 ro₀ u) (blank_long 64 rs₀ v) false st.body.radicals (h.listed.counts Radicals) (h.listed.fits Radicals) (at_list k b block size p t st w h Radicals) u v))
+    (published k b block size p t st w h co cs ro rs (f (lent_long 768 t long (omega arith)) c.atoms c.charges u v true st.body.charges (h.listed.counts Charges) (h.listed.fits Charges) (at_list k b block size p t st w h Charges) refl refl)
+    (g (lent_long 1089 t long (omega arith)) c.atoms c.radicals u v false st.body.radicals (h.listed.counts Radicals) (h.listed.fits Radicals) (at_list k b block size p t st w h Radicals) refl refl))

@@ -2,7 +2,9 @@
 // numbers is put there, whatever stood there before; those beyond stay.
 #![tactic(auto)]
 
-ghost use Rattle.std.specs.Prelude.{◌≡◌, ◌++◌, map, ℕ, ◌≤◌, length, drop};
+ghost use Rattle.std.specs.Prelude.{◌≡◌, ◌++◌, [], map, ℕ, ◌≤◌, length, drop};
+ghost use Rattle.lists.specs.Lists.{filled};
+ghost use Rattle.numbering.specs.Renumbers.{Renumbering};
 ghost use Rattle.format.specs.Reading.{State, finished, span_of};
 ghost use Rattle.format.specs.Table.{encode};
 ghost use Rattle.gather.specs.Progress.{Counted, Bounded, Holding};
@@ -29,18 +31,35 @@ const MARKED_AT: usize = Table::FIRST_CENTRE - Table::FIRST_BOND;
 
 const ROWS: usize = Table::SIZE - Table::FIRST_BOND;
 
-// The charge values and the radical values, in the order of the sorted rows.
-fn fill_spread(part: &mut [i32], p: Progress, charges: &[u32], radicals: &[u32])
-    requires { (length part.old ≡ 128) × Counted p × (length charges.now ≡ 64) × (length radicals.now ≡ 64) }
-    ensures { part.new ≡ spread_out p charges.now radicals.now }
+// How charge or radical rows are numbered: for each number that a row had as it came, its number among the sorted rows, and the sorted rows' values as codes.
+#[derive(Drop)]
+struct Renumbered {
+    order: [u32; Table::CHARGES + 1],
+    values: [u32; Table::CHARGES],
+}
+
+// The rows of a region of charges or radicals, numbered as the table has them.
+fn numbered(region: &[u32], atoms: usize, rows: usize) -> Renumbered
+    ensures { Renumbering region.now atoms rows (filled 0 65 []) (filled 0 64 []) result.order result.values }
 {
-    filling::records::fill_values(&mut part[0..RADICALS_AT], charges, p.charges);
-    filling::records::fill_values(&mut part[RADICALS_AT..SPREAD], radicals, p.radicals);
+    let mut order = [0; Table::CHARGES + 1];
+    let mut values = [0; Table::CHARGES];
+    numbering::renumber(region, atoms, rows, &mut order, &mut values);
+    Renumbered { order, values }
+}
+
+// The charge values and the radical values, in the order of the sorted rows.
+fn fill_spread(part: &mut [i32], p: Progress, charges: &Renumbered, radicals: &Renumbered)
+    requires { (length part.old ≡ 128) × Counted p }
+    ensures { part.new ≡ spread_out p charges.now.values radicals.now.values }
+{
+    filling::records::fill_values(&mut part[0..RADICALS_AT], &charges.values, p.charges);
+    filling::records::fill_values(&mut part[RADICALS_AT..SPREAD], &radicals.values, p.radicals);
 }
 
 // The centres and the pairs.
-fn fill_marked(part: &mut [i32], p: Progress, scratch: &[u32])
-    requires { (length part.old ≡ 896) × Counted p × (length scratch.now ≡ 2973) }
+fn fill_marked(part: &mut [i32], p: Progress, scratch: &[u32; Scratch::SIZE])
+    requires { (length part.old ≡ 896) × Counted p }
     ensures { part.new ≡ marked_out p scratch.now }
 {
     filling::keyed::fill_centres(
@@ -56,9 +75,15 @@ fn fill_marked(part: &mut [i32], p: Progress, scratch: &[u32])
 }
 
 // All five lists of rows.
-fn fill_rows(part: &mut [i32], p: Progress, scratch: &[u32], charges: &[u32], radicals: &[u32])
-    requires { (length part.old ≡ 2560) × Counted p × (length scratch.now ≡ 2973) × (length charges.now ≡ 64) × (length radicals.now ≡ 64) }
-    ensures { part.new ≡ rows_out p scratch.now charges.now radicals.now }
+fn fill_rows(
+    part: &mut [i32],
+    p: Progress,
+    scratch: &[u32; Scratch::SIZE],
+    charges: &Renumbered,
+    radicals: &Renumbered,
+)
+    requires { (length part.old ≡ 2560) × Counted p }
+    ensures { part.new ≡ rows_out p scratch.now charges.now.values radicals.now.values }
 {
     filling::keyed::fill_bonds(
         &mut part[0..SPREAD_AT],
@@ -74,23 +99,21 @@ fn fill_table(
     table: &mut [i32],
     block: &[u8],
     p: Progress,
-    scratch: &[u32],
-    charge_order: &[u32],
-    charges: &[u32],
-    radical_order: &[u32],
-    radicals: &[u32],
+    scratch: &[u32; Scratch::SIZE],
+    charges: &Renumbered,
+    radicals: &Renumbered,
 )
-    requires { (3856 ≤ length table.old) × (length scratch.now ≡ 2973) × Bounded (length block.now) p × (length block.now ≤ 32768) × (length charges.now ≡ 64) × (length radicals.now ≡ 64) }
-    ensures { table.new ≡ table_out block.now p scratch.now charge_order.now charges.now radical_order.now radicals.now ++ drop 3856 table.old }
+    requires { (3856 ≤ length table.old) × Bounded (length block.now) p × (length block.now ≤ 32768) }
+    ensures { table.new ≡ table_out block.now p scratch.now charges.now.order charges.now.values radicals.now.order radicals.now.values ++ drop 3856 table.old }
 {
     header::fill_header(&mut table[0..Table::FIRST_ATOM], block, p);
     filling::records::fill_atoms(
         &mut table[Table::FIRST_ATOM..Table::FIRST_BOND],
         &scratch[0..Scratch::FIRST_CHARGE],
         &scratch[Scratch::FIRST_CHARGE..Scratch::FIRST_RADICAL],
-        charge_order,
+        &charges.order,
         &scratch[Scratch::FIRST_RADICAL..Scratch::FIRST_BOND],
-        radical_order,
+        &radicals.order,
         p.atoms,
     );
     fill_rows(
@@ -103,38 +126,21 @@ fn fill_table(
 }
 
 // The structure that progress and scratch hold.
-fn put_structure(block: &[u8], p: Progress, scratch: &[u32], table: &mut [i32])
-    requires { (3856 ≤ length table.old) × (length scratch.now ≡ 2973) × Bounded (length block.now) p × (length block.now ≤ 32768) }
+fn put_structure(block: &[u8], p: Progress, scratch: &[u32; Scratch::SIZE], table: &mut [i32])
+    requires { (3856 ≤ length table.old) × Bounded (length block.now) p × (length block.now ≤ 32768) }
     ensures { (k : ℕ) (st : State) → Holding k block.now p scratch.now st → k ≤ 103 → table.new ≡ encode (finished st.body) (map span_of st.texts) ++ drop 3856 table.old }
 {
-    let mut charge_order = [0u32; Table::CHARGES + 1];
-    let mut charges = [0u32; Table::CHARGES];
-    numbering::renumber(
+    let charges = numbered(
         &scratch[Scratch::FIRST_CHARGE..Scratch::FIRST_RADICAL],
         p.atoms,
         p.charges,
-        &mut charge_order,
-        &mut charges,
     );
-    let mut radical_order = [0u32; Table::CHARGES + 1];
-    let mut radicals = [0u32; Table::CHARGES];
-    numbering::renumber(
+    let radicals = numbered(
         &scratch[Scratch::FIRST_RADICAL..Scratch::FIRST_BOND],
         p.atoms,
         p.radicals,
-        &mut radical_order,
-        &mut radicals,
     );
-    fill_table(
-        table,
-        block,
-        p,
-        scratch,
-        &charge_order,
-        &charges,
-        &radical_order,
-        &radicals,
-    );
+    fill_table(table, block, p, scratch, &charges, &radicals);
 }
 
 // The structure that progress and scratch hold, in the lent table. It is untouched where it is shorter than 3,856, the scratch has another length, the block is too long or
@@ -143,16 +149,13 @@ pub fn publish(block: &[u8], p: Progress, scratch: &[u32], table: &mut [i32])
     ensures { (((3856 ≤ length table.old) × (length scratch.now ≡ 2973) × (length block.now ≤ 32768) × Bounded (length block.now) p → ⊥) → table.new ≡ table.old) × ((k : ℕ) (st : State) → 3856 ≤ length table.old → length scratch.now ≡ 2973 → length block.now ≤ 32768 → Bounded (length block.now) p →
         Holding k block.now p scratch.now st → k ≤ 103 → table.new ≡ encode (finished st.body) (map span_of st.texts) ++ drop 3856 table.old) }
 {
-    if table.len() < Table::SIZE {
+    let Some(scratch) = scratch.as_array() else {
         return;
-    }
-    if scratch.len() != Scratch::SIZE {
-        return;
-    }
-    if Table::BLOCK < block.len() {
-        return;
-    }
-    if !header::guard::is_bounded(block.len(), p) {
+    };
+    if table.len() < Table::SIZE
+        || Table::BLOCK < block.len()
+        || !header::guard::is_bounded(block.len(), p)
+    {
         return;
     }
     put_structure(block, p, scratch, table);

@@ -2,10 +2,10 @@
 use Prim.Native.Nat.{ℕ, suc, ◌+◌, ◌-◌, ◌*◌, ◌^◌, ◌≤◌, ◌<◌}
 use mathlib.Core.Path.{◌≡◌, refl, sym, ap, ◌∙◌}
 use mathlib.Core.Bool.{Bool, true, false}
-use mathlib.Core.Option.{some, some-injective}
+use Rattle.std.specs.declared.option.Option.TheVariants.{Some}
+use Rattle.std.proofs.lemmas.Option.{same_Some}
 use mathlib.Core.List.{[], ◌∷◌, ◌++◌}
 use native.Mathlib.Omega.{arith}
-use native.Mathlib.Nat.{pow-le-pow_right}
 use lib.ListN.{length, get_or, take, drop, length-drop, take-append-drop}
 use lib.Seq.{take-suc, get_or-drop, drop-drop, length-take-le}
 use lib.IntN.{pos, neg_ℤ}
@@ -17,11 +17,11 @@ use Rattle.format.specs.Bytes.{Bytes, within}
 use Rattle.format.specs.Rows.{◌and_then◌, digit, number_from, number, natural, negative, signed}
 use Rattle.format.proofs.ByteLaws.{within_is, digit_bounds}
 use Rattle.format.proofs.NumberLaws.{number_is, digits_of_lem, from_nil, from_digit, bound_more}
-use Rattle.rows.proofs.XyzLaws.{raised_plus, raised_minus}
-use Rattle.quick.specs.Pieces.{word_at, DigitsAre, behind_minus, lifted_by, SignedIs, ShowsSigned, SpacedIs, ShowsSpaced}
+use Rattle.rows.specs.Raised.{lowered, six_digits}
+use Rattle.rows.proofs.XyzLaws.{lowered_raised, raised_plus, raised_minus}
+use Rattle.quick.specs.Pieces.{word_at, DigitsAre, behind_minus, lifted_by, SignedIs, SpacedIs}
 use Rattle.quick.specs.declared.parts.Digits.{Digits}
 use Rattle.quick.specs.declared.parts.SignedAt.{SignedAt}
-use Rattle.quick.specs.declared.parts.SignedAt.TheVariants as S
 use Rattle.quick.proofs.PieceLaws.{byte_at, digits_word}
 
 -- ONE DIGIT MORE
@@ -32,10 +32,10 @@ word_more s at to h l =
     let g : at + (to - at) ≡ to = omega arith in
     ap (λ (n : ℕ). take n (drop at s)) q ∙ take-suc (drop at s) (to - at) 0 m ∙ ap (λ (b : ℕ). word_at s at to ++ (b ∷ [])) (get_or-drop at s (to - at) 0 ∙ ap (λ (n : ℕ). get_or s n 0) g)
 
-from_append : (a n d : ℕ) (w : Bytes) → all digit w ≡ true → number_from a w ≡ some n → digit d ≡ true → number_from a (w ++ (d ∷ [])) ≡ some (n * 10 + (d - 48))
+from_append : (a n d : ℕ) (w : Bytes) → all digit w ≡ true → number_from a w ≡ Some n → digit d ≡ true → number_from a (w ++ (d ∷ [])) ≡ Some (n * 10 + (d - 48))
 from_append a n d [] h e f =
-    let q : a ≡ n = some-injective a n (sym (from_nil a) ∙ e) in
-    from_digit a d [] f ∙ from_nil (a * 10 + (d - 48)) ∙ ap (λ (m : ℕ). some (m * 10 + (d - 48))) q
+    let q : a ≡ n = same_Some a n (sym (from_nil a) ∙ e) in
+    from_digit a d [] f ∙ from_nil (a * 10 + (d - 48)) ∙ ap (λ (m : ℕ). Some (m * 10 + (d - 48))) q
 from_append a n d (b ∷ w) h e f =
     let p : (digit b ≡ true) × (all digit w ≡ true) = all_parts digit b w h in
     from_digit a b (w ++ (d ∷ [])) p.0 ∙ from_append (a * 10 + (b - 48)) n d w p.1 (sym (from_digit a b w p.0) ∙ e) f
@@ -45,7 +45,7 @@ pub record SoFar (s : Bytes) (at value to : ℕ) : Type 0 where
   pub low : at ≤ to
   pub high : to ≤ at + 6
   pub digits : all digit (word_at s at to) ≡ true
-  pub says : number_from 0 (word_at s at to) ≡ some value
+  pub says : number_from 0 (word_at s at to) ≡ Some value
   pub small : value < 10 ^ (to - at)
 
 pub so_far_none : (s : Bytes) (at : ℕ) → SoFar s at 0 at
@@ -53,12 +53,6 @@ so_far_none s at =
     let z : at - at ≡ 0 = omega arith in
     let w : word_at s at at ≡ [] = ap (λ (n : ℕ). take n (drop at s)) z in
     record { low = omega arith; high = omega arith; digits = ap (all digit) w ∙ all_nil digit; says = ap (number_from 0) w ∙ from_nil 0; small = rw z (omega arith) }
-
-pub so_far_small : (s : Bytes) (at value to : ℕ) → SoFar s at value to → value < 1000000
-so_far_small s at value to h = let m : 10 ^ (to - at) ≤ 10 ^ 6 = pow-le-pow_right (omega arith) {j = 6} (omega (arith, h.high)) in omega (arith, h.small)
-
-pub so_far_room : (s : Bytes) (at value to : ℕ) → SoFar s at value to → to < at + 6 → value < 100000
-so_far_room s at value to h l = let m : 10 ^ (to - at) ≤ 10 ^ 5 = pow-le-pow_right (omega arith) {j = 5} (omega arith) in omega (arith, h.small)
 
 pub so_far_more : (s : Bytes) (at value to d : ℕ) → SoFar s at value to → at + 6 ≤ length s → to < at + 6 → digit (get_or s to 0) ≡ true → d ≡ get_or s to 0 - 48 → SoFar s at (value * 10 + d) (to + 1)
 so_far_more s at value to d h room l e q =
@@ -69,24 +63,21 @@ so_far_more s at value to d h room l e q =
       low = omega (arith, h.low);
       high = omega arith;
       digits = ap (all digit) w ∙ all_append_both digit (word_at s at to) (get_or s to 0 ∷ []) h.digits (all_both digit (get_or s to 0) [] e (all_nil digit));
-      says = ap (number_from 0) w ∙ from_append 0 value (get_or s to 0) (word_at s at to) h.digits h.says e ∙ ap some v;
+      says = ap (number_from 0) w ∙ from_append 0 value (get_or s to 0) (word_at s at to) h.digits h.says e ∙ ap Some v;
       small = rw (k, ← v) (bound_more value (to - at) (get_or s to 0) h.small e);
     }
-
-pub digits_are : (s : Bytes) (at value to : ℕ) → SoFar s at value to → DigitsAre s at (record { value = value; to = to })
-digits_are s at value to h = record { low = h.low; high = h.high; digits = h.digits; says = h.says; small = so_far_small s at value to h }
 
 -- A WORD with its sign
 bare_digits : (b : ℕ) (w : Bytes) → digit b ≡ true → signed (b ∷ w) ≡ natural (b ∷ w)
 unfolding signed
 bare_digits b w e = rw (ne_eqb b 43 (λ q. omega (arith, (digit_bounds b e).0)), ne_eqb b 45 (λ q. omega (arith, (digit_bounds b e).0)), signed)
 
-signed_digits : (w : Bytes) (n : ℕ) → 0 < length w → all digit w ≡ true → number w ≡ some n → signed w ≡ some (pos n)
+signed_digits : (w : Bytes) (n : ℕ) → 0 < length w → all digit w ≡ true → number w ≡ Some n → signed w ≡ Some (pos n)
 unfolding natural
 signed_digits [] n h d e = absurd (omega arith)
 signed_digits (b ∷ w) n h d e = bare_digits b w (all_parts digit b w d).0 ∙ rw (e, ◌and_then◌)
 
-signed_minus : (w : Bytes) (n : ℕ) → number w ≡ some n → signed (45 ∷ w) ≡ some (neg_ℤ (pos n))
+signed_minus : (w : Bytes) (n : ℕ) → number w ≡ Some n → signed (45 ∷ w) ≡ Some (neg_ℤ (pos n))
 unfolding signed negative
 signed_minus w n e = rw (e, ◌and_then◌)
 
@@ -99,12 +90,6 @@ pub minus_absent : (s : Bytes) (at : ℕ) → (get_or s at 0 ≡ 45 → ⊥) →
 unfolding behind_minus
 minus_absent s at e = sym (rw (ne_eqb (get_or s at 0) 45 e, behind_minus))
 
-pub lifted_minus : (b : Bool) (n : ℕ) → b ≡ true → 1000000 - n ≡ lifted_by b n
-lifted_minus b n e = ap (λ (t : Bool). lifted_by t n) (sym e)
-
-pub lifted_plus : (b : Bool) (n : ℕ) → b ≡ false → 1000000 + n ≡ lifted_by b n
-lifted_plus b n e = ap (λ (t : Bool). lifted_by t n) (sym e)
-
 -- the digits as a number without a sign, and behind a minus
 module _ (s : Bytes) (from : ℕ) (r : Digits) (h : DigitsAre s from r) (more : r.to ≡ from → ⊥) (room : from + 6 ≤ length s) where
   abbrev digit_word : Bytes
@@ -116,7 +101,7 @@ module _ (s : Bytes) (from : ℕ) (r : Digits) (h : DigitsAre s from r) (more : 
   some_digits : 0 < length digit_word
   some_digits = omega (arith, long, h.low)
 
-  digits_number : number digit_word ≡ some r.value
+  digits_number : number digit_word ≡ Some r.value
   digits_number = number_is digit_word ∙ digits_of_lem 6 digit_word some_digits (omega (arith, long, h.high)) ∙ h.says
 
   digits_stand : drop from s ≡ digit_word ++ drop r.to s
@@ -124,38 +109,40 @@ module _ (s : Bytes) (from : ℕ) (r : Digits) (h : DigitsAre s from r) (more : 
       let k : from + (r.to - from) ≡ r.to = omega (arith, h.low) in
       sym (take-append-drop (r.to - from) (drop from s)) ∙ ap (λ (t : Bytes). digit_word ++ t) (drop-drop (r.to - from) from s ∙ ap (λ (n : ℕ). drop n s) k)
 
-  pub plain_signed : SignedIs s from (lifted_by false r.value) r.to
+  plus_is : lowered (lifted_by false r.value) ≡ pos r.value
+  plus_is = lowered_raised (pos r.value) (raised_plus r.value h.small).1
+
+  minus_is : lowered (lifted_by true r.value) ≡ neg_ℤ (pos r.value)
+  minus_is = let p = raised_minus r.value h.small in ap lowered (sym p.0) ∙ lowered_raised (neg_ℤ (pos r.value)) p.1
+
+  pub plain_signed : SignedIs s from (record { number = lifted_by false r.value; to = r.to })
   plain_signed = record {
     word = digit_word;
     is = digits_stand;
     fine = digits_word digit_word some_digits h.digits;
-    value = pos r.value;
-    says = signed_digits digit_word r.value some_digits h.digits digits_number;
-    lifts = refl;
-    small = (raised_plus r.value h.small).1;
+    says = signed_digits digit_word r.value some_digits h.digits digits_number ∙ ap Some (sym plus_is);
+    small = ap six_digits plus_is ∙ (raised_plus r.value h.small).1;
     low = omega (arith, h.low);
     high = omega (arith, h.high);
   }
 
-  pub minus_signed : (at : ℕ) → from ≡ at + 1 → get_or s at 0 ≡ 45 → SignedIs s at (lifted_by true r.value) r.to
+  pub minus_signed : (at : ℕ) → from ≡ at + 1 → get_or s at 0 ≡ 45 → SignedIs s at (record { number = lifted_by true r.value; to = r.to })
   minus_signed at e b = record {
     word = 45 ∷ digit_word;
     is = byte_at s at from (omega (arith, h.high)) e ∙ ap (λ (c : ℕ). c ∷ drop from s) b ∙ ap (λ (t : Bytes). 45 ∷ t) digits_stand;
     fine = record { some = omega arith; seen = all_both (within 37 126) 45 digit_word (within_is 37 126 45 (omega arith) (omega arith)) (digits_word digit_word some_digits h.digits).seen };
-    value = neg_ℤ (pos r.value);
-    says = signed_minus digit_word r.value digits_number;
-    lifts = (raised_minus r.value h.small).0;
-    small = (raised_minus r.value h.small).1;
+    says = signed_minus digit_word r.value digits_number ∙ ap Some (sym minus_is);
+    small = ap six_digits minus_is ∙ (raised_minus r.value h.small).1;
     low = omega (arith, h.low);
     high = omega (arith, h.high);
   }
 
 -- BY WHETHER A MINUS STANDS THERE
 pub signed_is : (s : Bytes) (at : ℕ) (from : ℕ) → from ≡ behind_minus s at → at + 7 ≤ length s → (r : Digits) → DigitsAre s from r → (r.to ≡ from → ⊥) → (n : ℕ) → n ≡ lifted_by (ltb at from) r.value
-    → SignedIs s at n r.to
+    → SignedIs s at (record { number = n; to = r.to })
 signed_is s at from e room r h more n q = go (eqb (get_or s at 0) 45) refl
   where
-    go : (t : Bool) → eqb (get_or s at 0) 45 ≡ t → SignedIs s at n r.to
+    go : (t : Bool) → eqb (get_or s at 0) 45 ≡ t → SignedIs s at (record { number = n; to = r.to })
     go true f =
         let b : get_or s at 0 ≡ 45 = eqb-true (get_or s at 0) 45 f in
         let k : from ≡ at + 1 = e ∙ sym (minus_there s at b) in
@@ -174,14 +161,5 @@ behind_near s at from e = go (eqb (get_or s at 0) 45) refl
     go true f = let k : from ≡ at + 1 = e ∙ sym (minus_there s at (eqb-true (get_or s at 0) 45 f)) in (omega arith, omega arith)
     go false f = let k : from ≡ at = e ∙ sym (minus_absent s at (eqb-false (get_or s at 0) 45 f)) in (omega arith, omega arith)
 
-pub signed_told : (s : Bytes) (at : ℕ) (r : SignedAt) → ShowsSigned s at r → (n to : ℕ) → r ≡ S.Number n to → SignedIs s at n to
-signed_told s at r h n to e = rw e at h
-
-pub spaced_is : (s : Bytes) (at n to : ℕ) → SignedIs s at n to → at + 8 ≤ length s → get_or s to 0 ≡ 32 → SpacedIs s at n (to + 1)
-spaced_is s at n to h room e = record { stop = to; number = h; is = byte_at s to (to + 1) (omega (arith, h.high)) refl ∙ ap (λ (b : ℕ). b ∷ drop (to + 1) s) e; next = refl }
-
-pub spaced_told : (s : Bytes) (at : ℕ) (r : SignedAt) → ShowsSpaced s at r → (n to : ℕ) → r ≡ S.Number n to → SpacedIs s at n to
-spaced_told s at r h n to e = rw e at h
-
-pub spaced_near : (s : Bytes) (at n to : ℕ) → SpacedIs s at n to → (at < to) × (to ≤ at + 8)
-spaced_near s at n to h = (omega (arith, h.next, h.number.low), omega (arith, h.next, h.number.high))
+pub spaced_near : (s : Bytes) (at : ℕ) (r : SignedAt) → SpacedIs s at r → (at < r.to) × (r.to ≤ at + 8)
+spaced_near s at r h = (omega (arith, h.next, h.number.low), omega (arith, h.next, h.number.high))

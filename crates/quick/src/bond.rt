@@ -1,57 +1,55 @@
 // A quick row of BONDLIST: document 01, "Rows".
-ghost use Rattle.quick.specs.Pieces.{ShowsKind};
-ghost use Rattle.quick.specs.Quick.{ShowsBond};
+ghost use Rattle.std.specs.Prelude.{IfSome};
+ghost use Rattle.quick.specs.Pieces.{KindIs};
+ghost use Rattle.quick.specs.Quick.{BondIs};
 
-use crate::parts::{EndAt, NumberAt, end_at, number_at};
+use crate::parts::{end_at, number_at};
+use rows::bond::BondRow;
 
-// Two atoms, the kind, 1 to 5 for S, D, T, Q, A, and the next line's place; or no quick row.
+// A row's values and the next line's place.
 #[derive(Clone, Copy)]
-pub enum QuickBond {
-    Values(u32, u32, u32, usize),
-    Not,
+pub struct QuickBond {
+    pub row: BondRow,
+    pub next: usize,
 }
+
+// The longest row: `123 456 S`, and a line's end.
+const LONGEST: usize = 11;
 
 // "S, D, T, Q or A": the kinds of A to T, three bits a letter, 0 for one that is none. One number, since a table would be laid out anew at each use.
 const KINDS: u64 = 451485862643893253;
 
-// The kind that a letter says; 0 where it says none.
-fn kind_of(letter: u8) -> u32
-    ensures { ShowsKind letter result }
+// The kind that a letter says, if it says one.
+fn kind_of(letter: u8) -> Option<u32>
+    ensures { IfSome result (KindIs letter) }
 {
-    if letter < 65 {
-        return 0;
+    if letter < b'A' || b'T' < letter {
+        return None;
     }
-    if 84 < letter {
-        return 0;
+    let shift = 3 * u64::from(letter - b'A');
+    let kind = ((KINDS >> shift) % 8) as u32;
+    if kind == 0 {
+        return None;
     }
-    let shift = 3 * (letter as u64 - 65);
-    ((KINDS >> shift) % 8) as u32
+    Some(kind)
 }
 
 // The row at a line's first byte: "two atoms and S, D, T, Q or A", one space between them and nothing else on the line. The longest is 11 bytes; one that stands so
 // near to the block's end that these are not there is not read here.
-pub fn quick_bond(block: &[u8], at: usize) -> QuickBond
-    ensures { ShowsBond block.now at result }
+pub fn quick_bond(block: &[u8], at: usize) -> Option<QuickBond>
+    ensures { IfSome result (BondIs block.now at) }
 {
-    let size = block.len();
-    if size < 11 {
-        return QuickBond::Not;
+    if block.len() < LONGEST || block.len() - LONGEST < at {
+        return None;
     }
-    if size - 11 < at {
-        return QuickBond::Not;
-    }
-    let NumberAt::Number(first, from) = number_at(block, at) else {
-        return QuickBond::Not;
+    let first = number_at(block, at)?;
+    let second = number_at(block, first.to)?;
+    let kind = kind_of(block[second.to])?;
+    let next = end_at(block, second.to + 1)?;
+    let row = BondRow {
+        first: first.number,
+        second: second.number,
+        kind,
     };
-    let NumberAt::Number(second, place) = number_at(block, from) else {
-        return QuickBond::Not;
-    };
-    let kind = kind_of(block[place]);
-    if kind == 0 {
-        return QuickBond::Not;
-    }
-    let EndAt::Next(next) = end_at(block, place + 1) else {
-        return QuickBond::Not;
-    };
-    QuickBond::Values(first, second, kind, next)
+    Some(QuickBond { row, next })
 }

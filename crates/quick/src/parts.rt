@@ -1,31 +1,31 @@
-// The pieces of quick rows: a number and the space behind it, a signed one, a line's end, what may stand behind a symbol: document 01, "Lines and labels" and "Rows". For
+// The pieces of quick rows: a number and the space behind it, a signed one, a symbol, a line's end, what may stand behind a symbol: document 01, "Lines and labels" and "Rows". For
 // this crate alone.
-ghost use Rattle.std.specs.Prelude.{◌≡◌, true, ◌+◌, ◌-◌, ◌<◌, ◌≤◌, length};
-ghost use Rattle.format.specs.Rows.{digit};
-ghost use Rattle.quick.specs.Pieces.{ShowsNumber, ShowsEnd, ShowsTail, behind_minus, lifted_by, DigitsAre, ShowsSigned, ShowsSpaced};
+ghost use Rattle.std.specs.Prelude.{◌≡◌, ◌+◌, ◌<◌, ◌≤◌, length, IfSome};
+ghost use Rattle.quick.specs.Pieces.{NumberIs, EndIs, SymbolIs, TailIs, behind_minus, lifted_by, DigitsAre, SignedIs, SpacedIs};
 
-use alphabet::is_digit;
+use alphabet::{digit, is_lower, is_upper};
 use rows::xyz::LIFT;
+use symbols::Mark;
 
 // A number and the place behind its space.
 #[derive(Clone, Copy)]
-pub enum NumberAt {
-    Number(u32, usize),
-    Not,
+pub struct NumberAt {
+    pub number: u32,
+    pub to: usize,
 }
 
-// The next line's place.
+// A symbol and the place behind it.
 #[derive(Clone, Copy)]
-pub enum EndAt {
-    Next(usize),
-    Not,
+pub struct SymbolAt {
+    pub mark: Mark,
+    pub to: usize,
 }
 
 // The implied hydrogens and the next line's place.
 #[derive(Clone, Copy)]
-pub enum Tail {
-    Ends(u32, usize),
-    Not,
+pub struct Tail {
+    pub hydrogens: u32,
+    pub next: usize,
 }
 
 // What digits say, and the place behind them.
@@ -37,90 +37,91 @@ pub struct Digits {
 
 // A signed number, 1,000,000 above it, and the place behind it or behind its space.
 #[derive(Clone, Copy)]
-pub enum SignedAt {
-    Number(u32, usize),
-    Not,
+pub struct SignedAt {
+    pub number: u32,
+    pub to: usize,
 }
 
 // A signed number has at most so many digits.
 const MOST_DIGITS: usize = 6;
 
-// What a digit says.
-fn digit_value(byte: u8) -> u32
-    requires { digit byte ≡ true }
-    ensures { (result ≡ byte - 48) × (result < 10) }
-{
-    (byte - 48) as u32
-}
-
 // A number of 1 to 3 digits with one space behind it: "Fields are parted by blanks."
-pub fn number_at(block: &[u8], at: usize) -> NumberAt
+pub fn number_at(block: &[u8], at: usize) -> Option<NumberAt>
     requires { at + 4 ≤ length block.now }
-    ensures { ShowsNumber block.now at result }
+    ensures { IfSome result (NumberIs block.now at) }
 {
-    let one = block[at];
-    if !is_digit(one) {
-        return NumberAt::Not;
-    }
-    let units = digit_value(one);
+    let units = digit(block[at])?;
     let two = block[at + 1];
-    if two == 32 {
-        return NumberAt::Number(units, at + 2);
+    if two == b' ' {
+        return Some(NumberAt {
+            number: units,
+            to: at + 2,
+        });
     }
-    if !is_digit(two) {
-        return NumberAt::Not;
-    }
-    let tens = units * 10 + digit_value(two);
+    let tens = units * 10 + digit(two)?;
     let three = block[at + 2];
-    if three == 32 {
-        return NumberAt::Number(tens, at + 3);
+    if three == b' ' {
+        return Some(NumberAt {
+            number: tens,
+            to: at + 3,
+        });
     }
-    if !is_digit(three) {
-        return NumberAt::Not;
+    let number = tens * 10 + digit(three)?;
+    if block[at + 3] != b' ' {
+        return None;
     }
-    if block[at + 3] != 32 {
-        return NumberAt::Not;
-    }
-    NumberAt::Number(tens * 10 + digit_value(three), at + 4)
+    Some(NumberAt { number, to: at + 4 })
 }
 
 // A line feed, or a carriage return and a line feed: "A line ends with a line feed (10)", and a carriage return is a blank.
-pub fn end_at(block: &[u8], at: usize) -> EndAt
+pub fn end_at(block: &[u8], at: usize) -> Option<usize>
     requires { at + 2 ≤ length block.now }
-    ensures { ShowsEnd block.now at result }
+    ensures { IfSome result (EndIs block.now at) }
 {
     let byte = block[at];
-    if byte == 10 {
-        return EndAt::Next(at + 1);
+    if byte == b'\n' {
+        return Some(at + 1);
     }
-    if byte != 13 {
-        return EndAt::Not;
+    if byte != b'\r' || block[at + 1] != b'\n' {
+        return None;
     }
-    if block[at + 1] != 10 {
-        return EndAt::Not;
+    Some(at + 2)
+}
+
+// A symbol without `^`: "an upper-case letter and at most one lower-case letter".
+pub fn symbol_at(block: &[u8], at: usize) -> Option<SymbolAt>
+    requires { at + 2 ≤ length block.now }
+    ensures { IfSome result (SymbolIs block.now at) }
+{
+    let first = block[at];
+    if !is_upper(first) {
+        return None;
     }
-    EndAt::Next(at + 2)
+    let second = block[at + 1];
+    if is_lower(second) {
+        return Some(SymbolAt {
+            mark: Mark::plain(first, second),
+            to: at + 2,
+        });
+    }
+    Some(SymbolAt {
+        mark: Mark::plain(first, 0),
+        to: at + 1,
+    })
 }
 
 // What stands behind the symbol: "optional hydrogens 0 to 15 (absent means 0)", here one space and one digit, and the line's end.
-pub fn tail_at(block: &[u8], at: usize) -> Tail
+pub fn tail_at(block: &[u8], at: usize) -> Option<Tail>
     requires { at + 4 ≤ length block.now }
-    ensures { ShowsTail block.now at result }
+    ensures { IfSome result (TailIs block.now at) }
 {
-    if block[at] == 32 {
-        let byte = block[at + 1];
-        if !is_digit(byte) {
-            return Tail::Not;
-        }
-        let EndAt::Next(next) = end_at(block, at + 2) else {
-            return Tail::Not;
-        };
-        return Tail::Ends(digit_value(byte), next);
+    if block[at] == b' ' {
+        let hydrogens = digit(block[at + 1])?;
+        let next = end_at(block, at + 2)?;
+        return Some(Tail { hydrogens, next });
     }
-    let EndAt::Next(next) = end_at(block, at) else {
-        return Tail::Not;
-    };
-    Tail::Ends(0, next)
+    let next = end_at(block, at)?;
+    Some(Tail { hydrogens: 0, next })
 }
 
 // The digits from `at` on, none or at most six.
@@ -128,26 +129,26 @@ fn digits_at(block: &[u8], at: usize) -> Digits
     requires { at + 6 ≤ length block.now }
     ensures { DigitsAre block.now at result }
 {
-    let end = at + MOST_DIGITS;
-    let mut value: u32 = 0;
-    let mut to = at;
-    while to < end {
-        let byte = block[to];
-        if !is_digit(byte) {
+    let mut value = 0;
+    for to in at..at + MOST_DIGITS {
+        let Some(d) = digit(block[to]) else {
             return Digits { value, to };
-        }
-        value = value * 10 + digit_value(byte);
-        to += 1;
+        };
+        value = value * 10 + d;
     }
-    Digits { value, to }
+    Digits {
+        value,
+        to: at + MOST_DIGITS,
+    }
 }
 
+// By two small functions, not by a `match`: so the run of rows has no branch more.
 // The place behind a minus, if one stands at `at`.
 fn behind_minus(block: &[u8], at: usize) -> usize
     requires { at < length block.now }
     ensures { result ≡ behind_minus block.now at }
 {
-    if block[at] == 45 {
+    if block[at] == b'-' {
         return at + 1;
     }
     at
@@ -158,35 +159,36 @@ fn lifted_by(negative: bool, value: u32) -> u32
     requires { value < 1000000 }
     ensures { result ≡ lifted_by negative value }
 {
-    if negative {
-        return LIFT - value;
-    }
-    LIFT + value
+    if negative { LIFT - value } else { LIFT + value }
 }
 
 // "signed numbers of 1 to 6 digits": here with a minus or no sign.
-pub fn signed_at(block: &[u8], at: usize) -> SignedAt
+pub fn signed_at(block: &[u8], at: usize) -> Option<SignedAt>
     requires { at + 7 ≤ length block.now }
-    ensures { ShowsSigned block.now at result }
+    ensures { IfSome result (SignedIs block.now at) }
 {
     let from = behind_minus(block, at);
     let digits = digits_at(block, from);
     if digits.to == from {
-        return SignedAt::Not;
+        return None;
     }
-    SignedAt::Number(lifted_by(at < from, digits.value), digits.to)
+    Some(SignedAt {
+        number: lifted_by(at < from, digits.value),
+        to: digits.to,
+    })
 }
 
 // The same with one space behind it: "Fields are parted by blanks."
-pub fn spaced_at(block: &[u8], at: usize) -> SignedAt
+pub fn spaced_at(block: &[u8], at: usize) -> Option<SignedAt>
     requires { at + 8 ≤ length block.now }
-    ensures { ShowsSpaced block.now at result }
+    ensures { IfSome result (SpacedIs block.now at) }
 {
-    let SignedAt::Number(number, to) = signed_at(block, at) else {
-        return SignedAt::Not;
-    };
-    if block[to] != 32 {
-        return SignedAt::Not;
+    let signed = signed_at(block, at)?;
+    if block[signed.to] != b' ' {
+        return None;
     }
-    SignedAt::Number(number, to + 1)
+    Some(SignedAt {
+        number: signed.number,
+        to: signed.to + 1,
+    })
 }

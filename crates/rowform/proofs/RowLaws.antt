@@ -1,62 +1,63 @@
 -- The line of each list's row is the definition's: document 01, "Rows" and "The one written form". Assumes nothing.
 use Prim.Native.Nat.{ℕ, suc, ◌+◌, ◌≤◌, ◌<◌}
-use mathlib.Core.Path.{◌≡◌, refl, sym, ap, ap₂, ◌∙◌, subst}
+use mathlib.Core.Path.{◌≡◌, refl, sym, ap, ap₂, ◌∙◌}
 use mathlib.Core.Bool.{Bool, true, false}
 use mathlib.Core.List.{List, [], ◌∷◌, ◌++◌, map}
 use native.Mathlib.Numerals.{add-one}
 use native.Mathlib.Omega.{arith}
-use borrow.Author.Tests.{eq-eqb, ne_eqb}
+use borrow.Author.Tests.{ne_eqb}
 use lib.Dec.{eqb}
-use lib.ListN.{length, get_or, drop, drop_of_length-le}
+use lib.ListN.{length, get_or, take, drop, drop_of_length-le}
 use lib.IntN.{ℤ, pos}
 use lib.Seq.{drop-cons}
 use Rattle.format.specs.Bytes.{Bytes, bytes}
 use Rattle.format.specs.Labels.{Bonds, Charges, Radicals, Centres, Pairs}
-use Rattle.format.specs.Table.{row_place, atom_place, cell, members_at, atom_records}
+use Rattle.format.specs.Rows.{row}
+use Rattle.format.specs.Structure.{rows_of}
+use Rattle.format.specs.Table.{row_place, atom_place, cell, members_at, atom_records, decode}
 use Rattle.format.specs.Writing.{digits, line, row_words, signed_of}
-use Rattle.printing.specs.Printing.{Laid, Untouched, spaced}
-use Rattle.rowform.specs.Lines.{list_of, mark_line, member_of, RowLaid}
+use Rattle.cells.proofs.FirstLaws.{decode_first}
+use Rattle.printing.specs.Printing.{Printed, spaced}
+use Rattle.printing.specs.declared.Sheet.{Sheet}
 use Rattle.rowform.specs.declared.Listed.{Listed}
-use Rattle.printing.proofs.PrintLaws.{laid_as, spaced_none, spaced_more}
-use Rattle.rowform.proofs.LineLaws.{spread_laid}
+use Rattle.rowform.specs.Lines.{list_of, mark_line, member_of, row_no, RowLaid}
+use Rattle.printing.proofs.PrintLaws.{printed_as, spaced_none, spaced_more}
+use Rattle.rowform.proofs.LineLaws.{spread_printed}
 use Rattle.rowform.proofs.PlaceLaws.{bond_is, centre_is, pair_is, charge_is, radical_is, record_read}
 
 -- ROWS WITH A LETTER
-module _ (t : List ℤ) (long : 3856 ≤ length t) (i p : ℕ) {b b' : Bytes} {at r : ℕ} where
-  pub bond_laid : p ≡ row_place Bonds i → (n m v k : ℕ) → n ≡ cell t p → m ≡ cell t (p + 1) → v ≡ cell t (p + 2) → k ≡ get_or (45 ∷ 83 ∷ 68 ∷ 84 ∷ 81 ∷ 65 ∷ []) v 0
-      → (0 < 256 → Laid b at (mark_line (n ∷ m ∷ []) k 0) b' r) → RowLaid Bonds t i b at b' r
+module _ (t : List ℤ) (long : 3856 ≤ length t) (i p : ℕ) {s₀ s' : Sheet} where
+  pub bond_printed : p ≡ row_place Bonds i → (n m v k : ℕ) → n ≡ cell t p → m ≡ cell t (p + 1) → v ≡ cell t (p + 2) → k ≡ get_or (45 ∷ 83 ∷ 68 ∷ 84 ∷ 81 ∷ 65 ∷ []) v 0
+      → (0 < 256 → Printed s₀ (mark_line (n ∷ m ∷ []) k 0) s') → RowLaid Bonds t i s₀ s'
   unfolding row_words bytes
-  bond_laid e n m v k x q s u l h g =
-      laid_as
+  bond_printed e n m v k x q s u l h g =
+      printed_as
       (ap₂ (λ x y. mark_line (x ∷ y ∷ []) k 0) x q
       ∙ ap (λ z. mark_line (cell t p ∷ cell t (p + 1) ∷ []) z 0) (u ∙ ap (λ x. get_or (45 ∷ 83 ∷ 68 ∷ 84 ∷ 81 ∷ 65 ∷ []) x 0) s)
       ∙ sym (ap (λ x. line (row_words Bonds x)) (bond_is t long i p e h)))
       (l (omega arith))
 
-  pub centre_laid : p ≡ row_place Centres i → (n v k o : ℕ) → n ≡ cell t p → v ≡ cell t (p + 1) → k ≡ get_or (48 ∷ 80 ∷ 77 ∷ []) v 0 → o ≡ cell t (p + 2)
-      → (o < 256 → Laid b at (mark_line (n ∷ []) k o) b' r) → RowLaid Centres t i b at b' r
+  pub centre_printed : p ≡ row_place Centres i → (n v k o : ℕ) → n ≡ cell t p → v ≡ cell t (p + 1) → k ≡ get_or (48 ∷ 80 ∷ 77 ∷ []) v 0 → o ≡ cell t (p + 2)
+      → (o < 256 → Printed s₀ (mark_line (n ∷ []) k o) s') → RowLaid Centres t i s₀ s'
   unfolding row_words bytes
-  centre_laid e n v k o x s u w l h g =
-      laid_as
+  centre_printed e n v k o x s u w l h g =
+      printed_as
       (ap₂ (λ x y. mark_line (x ∷ []) k y) x w
       ∙ ap (λ z. mark_line (cell t p ∷ []) z (cell t (p + 2))) (u ∙ ap (λ x. get_or (48 ∷ 80 ∷ 77 ∷ []) x 0) s)
       ∙ sym (ap (λ x. line (row_words Centres x)) (centre_is t long i p e h)))
       (l (rw (w, ← (ap (λ x. x.group) (centre_is t long i p e h))) g))
 
-  pub pair_laid : p ≡ row_place Pairs i → (n m v k o : ℕ) → n ≡ cell t p → m ≡ cell t (p + 1) → v ≡ cell t (p + 2) → k ≡ get_or (48 ∷ 80 ∷ 77 ∷ []) v 0 → o ≡ cell t (p + 3)
-      → (o < 256 → Laid b at (mark_line (n ∷ m ∷ []) k o) b' r) → RowLaid Pairs t i b at b' r
+  pub pair_printed : p ≡ row_place Pairs i → (n m v k o : ℕ) → n ≡ cell t p → m ≡ cell t (p + 1) → v ≡ cell t (p + 2) → k ≡ get_or (48 ∷ 80 ∷ 77 ∷ []) v 0 → o ≡ cell t (p + 3)
+      → (o < 256 → Printed s₀ (mark_line (n ∷ m ∷ []) k o) s') → RowLaid Pairs t i s₀ s'
   unfolding row_words bytes
-  pair_laid e n m v k o x q s u w l h g =
-      laid_as
+  pair_printed e n m v k o x q s u w l h g =
+      printed_as
       (ap₂ (λ x y. mark_line (x ∷ y ∷ []) k o) x q
       ∙ ap₂ (λ z y. mark_line (cell t p ∷ cell t (p + 1) ∷ []) z y) (u ∙ ap (λ x. get_or (48 ∷ 80 ∷ 77 ∷ []) x 0) s) w
       ∙ sym (ap (λ x. line (row_words Pairs x)) (pair_is t long i p e h)))
       (l (rw (w, ← (ap (λ x. x.group) (pair_is t long i p e h))) g))
 
 -- MEMBERS
-pub member_is : (c j n k : ℕ) → c ≡ k → c ≡ j → 32 ∷ digits n ≡ member_of (eqb k j) n
-member_is c j n k e h = sym (ap (λ x. member_of x n) (eq-eqb k j (sym e ∙ h)))
-
 pub member_none : (c j n k : ℕ) → c ≡ k → (c ≡ j → ⊥) → [] ≡ member_of (eqb k j) n
 member_none c j n k e f = sym (ap (λ x. member_of x n) (ne_eqb k j (λ h. f (e ∙ h))))
 
@@ -91,17 +92,24 @@ unfolding members_at
 members_end t p j i h = ap (members_text p j (i + 1)) (drop_of_length-le (atom_records t) h) ∙ spaced_none
 
 -- ROWS OF MEMBERS
-module _ (t : List ℤ) (long : 3856 ≤ length t) (i p : ℕ) {b b₁ b₂ b₃ : Bytes} {at r₁ r₂ r₃ : ℕ} where
-  pub charge_laid : p ≡ row_place Charges i → Laid b at (signed_of (get_or t p (pos 0))) b₁ r₁ → Laid b₁ r₁ (members_text 3 (i + 1) 1 (atom_records t)) b₂ r₂ → Laid b₂ r₂ (10 ∷ []) b₃ r₃ → RowLaid Charges t i b at b₃ r₃
+module _ (t : List ℤ) (long : 3856 ≤ length t) (i p : ℕ) {s₀ s₁ s₂ : Sheet} where
+  pub charge_printed : p ≡ row_place Charges i → Printed s₀ (signed_of (get_or t p (pos 0))) s₁ → Printed s₁ (members_text 3 (i + 1) 1 (atom_records t) ++ (10 ∷ [])) s₂ → RowLaid Charges t i s₀ s₂
   unfolding row_words
-  charge_laid e l₁ l₂ l₃ h g = laid_as (sym (ap (λ x. line (row_words Charges x)) (charge_is t long i p e h))) (spread_laid (signed_of (get_or t p (pos 0))) (map digits (members_at 3 (i + 1) 1 (atom_records t))) l₁ l₂ l₃)
+  charge_printed e l₁ l₂ h g = printed_as (sym (ap (λ x. line (row_words Charges x)) (charge_is t long i p e h))) (spread_printed (signed_of (get_or t p (pos 0))) (map digits (members_at 3 (i + 1) 1 (atom_records t))) l₁ l₂)
 
-  pub radical_laid : p ≡ row_place Radicals i → (v : ℕ) → v ≡ cell t p → Laid b at (digits v) b₁ r₁ → Laid b₁ r₁ (members_text 4 (i + 1) 1 (atom_records t)) b₂ r₂ → Laid b₂ r₂ (10 ∷ []) b₃ r₃ → RowLaid Radicals t i b at b₃ r₃
+  pub radical_printed : p ≡ row_place Radicals i → (v : ℕ) → v ≡ cell t p → Printed s₀ (digits v) s₁ → Printed s₁ (members_text 4 (i + 1) 1 (atom_records t) ++ (10 ∷ [])) s₂ → RowLaid Radicals t i s₀ s₂
   unfolding row_words
-  radical_laid e v f l₁ l₂ l₃ h g = laid_as (sym (ap (λ x. line (row_words Radicals x)) (radical_is t long i p e h))) (spread_laid (digits (cell t p)) (map digits (members_at 4 (i + 1) 1 (atom_records t))) (laid_as (ap digits f) l₁) l₂ l₃)
+  radical_printed e v f l₁ l₂ h g = printed_as (sym (ap (λ x. line (row_words Radicals x)) (radical_is t long i p e h))) (spread_printed (digits (cell t p)) (map digits (members_at 4 (i + 1) 1 (atom_records t))) (printed_as (ap digits f) l₁) l₂)
 
--- A ROW THAT IS PRINTED: the list is told, and neither reason to print nothing holds
-module _ (t : List ℤ) (i : ℕ) (x y : Listed) {b b' : Bytes} {at r : ℕ} where
-  pub row_printed : x ≡ y → i < 512 → 3856 ≤ length t → RowLaid (list_of y) t i b at b' r
-      → ((i < 512) × (3856 ≤ length t) → RowLaid (list_of x) t i b at b' r) × (512 ≤ i → Untouched b at b' r) × (length t < 3856 → Untouched b at b' r)
-  row_printed e low long l = (λ fit. subst (λ z. RowLaid (list_of z) t i b at b' r) (sym e) l, λ h. absurd (omega arith), λ h. absurd (omega arith))
+-- A ROW OF THE TABLE'S FRONT is the table's, whichever the list
+module _ (l m : Listed) (is : l ≡ m) (t u : List ℤ) (i : ℕ) {s s' : Sheet} where
+  row_front : u ≡ take 3856 t → RowLaid (list_of m) u i s s' → RowLaid (list_of l) t i s s'
+  unfolding row_no
+  row_front e p h g =
+      let d : decode u ≡ decode t = ap decode e ∙ decode_first t in
+      let r : row_no (list_of m) u i ≡ row_no (list_of l) t i = ap₂ (λ k x. get_or (rows_of (list_of k) x) i (row [] (pos 0) 0)) (sym is) d in
+      printed_as (ap₂ (λ k x. line (row_words (list_of k) x)) (sym is) r) (p (rw (← is, d) h) (rw (r) g))
+
+  pub row_led : u ≡ take 3856 t → 3856 ≤ length t → i < 512 → RowLaid (list_of m) u i s s'
+      → ((i < 512) × (3856 ≤ length t) → RowLaid (list_of l) t i s s') × (512 ≤ i → s' ≡ s) × (length t < 3856 → s' ≡ s)
+  row_led e k h p = (λ x. row_front e p, λ x. absurd (omega arith), λ x. absurd (omega arith))

@@ -6,7 +6,8 @@ use Rattle.format.specs.Rows.{Row, row}
 use Rattle.format.specs.Structure.{isotope_of, Atom, rows_of}
 use Rattle.format.specs.Table.{cell, decode}
 use Rattle.format.specs.Writing.{digits, unless_zero, line, atom_words, row_words}
-use Rattle.printing.specs.Printing.{Laid}
+use Rattle.printing.specs.Printing.{Printed}
+use Rattle.printing.specs.declared.Sheet.{Sheet}
 use Rattle.rowform.specs.declared.Listed.{Listed}
 use Rattle.rowform.specs.declared.Listed.TheVariants.{Bond, Charge, Radical, Centre, Pair}
 
@@ -42,5 +43,5 @@ list_of Pair = Pairs
 unfoldable pub row_no : ListOf → List ℤ → ℕ → Row
 row_no l t i = get_or (rows_of l (decode t)) i (row [] (pos 0) 0)
 
-abbrev pub RowLaid : ListOf → List ℤ → (i : ℕ) (buffer : Bytes) (at : ℕ) (later : Bytes) (r : ℕ) → Type 0
-RowLaid l t i b at b' r = i < length (rows_of l (decode t)) → (row_no l t i).group < 256 → Laid b at (line (row_words l (row_no l t i))) b' r
+abbrev pub RowLaid : ListOf → List ℤ → (i : ℕ) (before later : Sheet) → Type 0
+RowLaid l t i s s' = i < length (rows_of l (decode t)) → (row_no l t i).group < 256 → Printed s (line (row_words l (row_no l t i))) s'

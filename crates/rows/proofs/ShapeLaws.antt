@@ -1,105 +1,62 @@
--- The shape of a row from its parts, once over the number of atoms, the letters and what may follow, and the shape of an atom's row: document 01, "Rows".
--- Assumes nothing.
+-- The shape of a row from its parts, once over the number of atoms, the letters and what may follow; the shape of an atom's row and of a row of XYZ; and the answer
+-- that a shape gives: document 01, "Rows"; document 02, L2. Assumes nothing.
 use Prim.Native.Nat.{ℕ, suc}
 use Prim.Native.String.{String}
 use mathlib.Core.Path.{◌≡◌, refl, sym, ap, ◌∙◌}
-use mathlib.Core.Bool.{true, false}
-use mathlib.Core.Option.{Option, none, some}
+use mathlib.Core.Bool.{Bool, cond}
+use Rattle.std.specs.declared.option.Option.{Option}
+use Rattle.std.specs.declared.option.Option.TheVariants.{None, Some}
 use mathlib.Core.List.{List, [], ◌∷◌}
 use lib.IntN.{pos}
 use lib.ListN.{drop}
 use Rattle.lists.specs.Lists.{is_nil}
-use Rattle.lists.proofs.Bools.{torn}
 use Rattle.format.specs.Bytes.{Bytes, bytes, fields}
-use Rattle.format.specs.Rows.{◌and_then◌, number, symbol, field, optional, nothing_more, place_in, first_numbers, atom_shape, row, marked}
+use Rattle.format.specs.Rows.{◌and_then◌, Sym, number, symbol, field, optional, nothing_more, place_in, first_numbers, atom_shape, row, marked}
+use Rattle.format.specs.Coordinates.{xyz_shape}
 use Rattle.fields.specs.NextFields.{field_in, NextField}
-use Rattle.numbers.specs.ShownNumbers.{Shows}
-use Rattle.symbols.specs.ShownSymbols.{sym_of_mark, shown_symbol, ShowsSymbol}
 use Rattle.fields.specs.declared.Field.{Field}
-use Rattle.numbers.specs.declared.Numeral.{Numeral}
-use Rattle.numbers.specs.declared.Numeral.TheVariants as N
-use Rattle.symbols.specs.declared.Mark.{Mark}
-use Rattle.symbols.specs.declared.Spelling.{Spelling}
-use Rattle.symbols.specs.declared.Spelling.TheVariants as S
-use Rattle.rows.specs.Parts.{Behind, AtomIs}
-use Rattle.rows.specs.Answers.{atom_row_of}
-use Rattle.rows.proofs.PartLaws.{shows_value, shows_wrong, field_behind, behind_next, behind_one}
+use Rattle.rows.specs.Parts.{Behind}
+use Rattle.rows.proofs.PartLaws.{field_behind, behind_next}
 
-pub end_none : (fs : List Bytes) → is_nil fs ≡ false → optional nothing_more fs ≡ none
-end_none [] e = torn true refl e
-end_none (f ∷ []) e = refl
-end_none (f ∷ g ∷ fs) e = refl
+-- THE END of a row, or a field too many
+abbrev pub end_or_none : (end : Bool) → Option ℕ
+end_or_none t = cond t (Some 0) None
 
-pub end_some : (fs : List Bytes) → is_nil fs ≡ true → optional nothing_more fs ≡ some 0
-end_some [] e = refl
-end_some (f ∷ fs) e = torn false e refl
+pub at_end_is : (fs : List Bytes) (t : Bool) → t ≡ is_nil fs → end_or_none t ≡ optional nothing_more fs
+at_end_is [] t e = rw e refl
+at_end_is (f ∷ []) t e = rw e refl
+at_end_is (f ∷ g ∷ fs) t e = rw e refl
 
 -- ATOMS, A LETTER, AND WHAT MAY FOLLOW
 module _ (n from : ℕ) (letters : String) (last : Bytes → Option ℕ) (line : Bytes) where
-  pub no_atoms : first_numbers n (fields line) ≡ none → none ≡ marked n from letters last (fields line)
+  pub no_atoms : first_numbers n (fields line) ≡ None → None ≡ marked n from letters last (fields line)
   unfolding marked
   no_atoms e = sym (rw (e, ◌and_then◌))
 
-  module _ (ns : List ℕ) (a : first_numbers n (fields line) ≡ some ns) (at : ℕ) (b : Behind line n at) (f : Field) (next : NextField line at f) (bound : ℕ) (w : Numeral)
-      (s : Shows bound (place_in from (field_in line f) (bytes letters)) w) where
-    letter_is : place_in from (field_in line f) (bytes letters) ≡ place_in from (field n (fields line)) (bytes letters)
-    letter_is = ap (λ (v : Bytes). place_in from v (bytes letters)) (field_behind line at f next n b)
-
-    pub no_letter : w ≡ N.Wrong → none ≡ marked n from letters last (fields line)
-    unfolding marked
-    no_letter e =
-        let q : place_in from (field n (fields line)) (bytes letters) ≡ none = sym letter_is ∙ shows_wrong bound (place_in from (field_in line f) (bytes letters)) w s e in
-        sym (rw (a, ◌and_then◌) (rw (q, ◌and_then◌)))
-
-    module _ (v : ℕ) (e : w ≡ N.Value v) where
-      value_is : place_in from (field n (fields line)) (bytes letters) ≡ some v
-      value_is = sym letter_is ∙ shows_value bound (place_in from (field_in line f) (bytes letters)) w s v e
-
-      rest_is : optional last (fields (drop f.to line)) ≡ optional last (drop (suc n) (fields line))
-      rest_is = ap (optional last) (behind_next line at f next n b).rest
-
-      pub no_last : optional last (fields (drop f.to line)) ≡ none → none ≡ marked n from letters last (fields line)
-      unfolding marked
-      no_last l = let q : optional last (drop (suc n) (fields line)) ≡ none = sym rest_is ∙ l in sym (rw (a, ◌and_then◌) (rw (value_is, ◌and_then◌) (rw (q, ◌and_then◌))))
-
-      pub row_is : (g : ℕ) → optional last (fields (drop f.to line)) ≡ some g → some (row ns (pos v) g) ≡ marked n from letters last (fields line)
-      unfolding marked
-      row_is g l = let q : optional last (drop (suc n) (fields line)) ≡ some g = sym rest_is ∙ l in sym (rw (a, ◌and_then◌) (rw (value_is, ◌and_then◌) (rw (q, ◌and_then◌))))
+  pub marked_is : (ns : List ℕ) → first_numbers n (fields line) ≡ Some ns → (at : ℕ) → Behind line n at → (f : Field) → NextField line at f
+      → (v g : Option ℕ) → v ≡ place_in from (field_in line f) (bytes letters) → g ≡ optional last (fields (drop f.to line))
+      → (v and_then λ v. g and_then λ g. Some (row ns (pos v) g)) ≡ marked n from letters last (fields line)
+  unfolding marked
+  marked_is ns a at b f next v g p q =
+      let letter : place_in from (field n (fields line)) (bytes letters) ≡ v = sym (p ∙ ap (λ (w : Bytes). place_in from w (bytes letters)) (field_behind line at f next n b)) in
+      let rest : optional last (drop (suc n) (fields line)) ≡ g = sym (q ∙ ap (optional last) (behind_next line at f next n b).rest) in
+      sym (rw (a, letter, rest) refl)
 
 -- AN ATOM'S ROW
-module _ (line : Bytes) where
-  pub no_number : number (field 0 (fields line)) ≡ none → none ≡ atom_shape (fields line)
-  unfolding atom_shape
-  no_number e = sym (rw (e, ◌and_then◌))
+pub no_number : (fs : List Bytes) → number (field 0 fs) ≡ None → None ≡ atom_shape fs
+unfolding atom_shape
+no_number fs e = sym (rw (e, ◌and_then◌))
 
-  module _ (n at : ℕ) (a : AtomIs line 0 n at) (f : Field) (next : NextField line at f) (w : Spelling) (s : ShowsSymbol (symbol (field_in line f)) w) where
-    symbol_is : symbol (field 1 (fields line)) ≡ shown_symbol w
-    symbol_is = sym (ap symbol (field_behind line at f next 1 (behind_one line n at a))) ∙ sym s.is
+pub atom_is : (line : Bytes) (n : ℕ) → number (field 0 (fields line)) ≡ Some n → (at : ℕ) → Behind line 1 at → (f : Field) → NextField line at f
+    → (x : Option Sym) (h : Option ℕ) → x ≡ symbol (field_in line f) → h ≡ optional number (fields (drop f.to line))
+    → (x and_then λ x. h and_then λ h. Some (record { number = n; symbol = x; hydrogens = h })) ≡ atom_shape (fields line)
+unfolding atom_shape
+atom_is line n a at b f next x h p q =
+    let letters : symbol (field 1 (fields line)) ≡ x = sym (p ∙ ap symbol (field_behind line at f next 1 b)) in
+    let rest : optional number (drop 2 (fields line)) ≡ h = sym (q ∙ ap (optional number) (behind_next line at f next 1 b).rest) in
+    sym (rw (a, letters, rest) refl)
 
-    pub no_symbol : w ≡ S.Wrong → none ≡ atom_shape (fields line)
-    unfolding atom_shape
-    no_symbol e =
-        let p : number (field 0 (fields line)) ≡ some n = a.is in
-        let q : symbol (field 1 (fields line)) ≡ none = symbol_is ∙ ap shown_symbol e in
-        sym (rw (p, ◌and_then◌) (rw (q, ◌and_then◌)))
-
-    module _ (x : Mark) (e : w ≡ S.Spelt x) where
-      spelt : symbol (field 1 (fields line)) ≡ some (sym_of_mark x)
-      spelt = symbol_is ∙ ap shown_symbol e
-
-      hydrogens_rest : optional number (fields (drop f.to line)) ≡ optional number (drop 2 (fields line))
-      hydrogens_rest = ap (optional number) (behind_next line at f next 1 (behind_one line n at a)).rest
-
-      pub no_hydrogens : optional number (fields (drop f.to line)) ≡ none → none ≡ atom_shape (fields line)
-      unfolding atom_shape
-      no_hydrogens l =
-          let p : number (field 0 (fields line)) ≡ some n = a.is in
-          let q : optional number (drop 2 (fields line)) ≡ none = sym hydrogens_rest ∙ l in
-          sym (rw (p, ◌and_then◌) (rw (spelt, ◌and_then◌) (rw (q, ◌and_then◌))))
-
-      pub atom_row_is : (h : ℕ) → optional number (fields (drop f.to line)) ≡ some h → some (atom_row_of n x h) ≡ atom_shape (fields line)
-      unfolding atom_shape
-      atom_row_is h l =
-          let p : number (field 0 (fields line)) ≡ some n = a.is in
-          let q : optional number (drop 2 (fields line)) ≡ some h = sym hydrogens_rest ∙ l in
-          sym (rw (p, ◌and_then◌) (rw (spelt, ◌and_then◌) (rw (q, ◌and_then◌))))
+-- A ROW OF XYZ
+pub no_atom : (fs : List Bytes) → number (field 0 fs) ≡ None → None ≡ xyz_shape fs
+unfolding xyz_shape
+no_atom fs e = sym (rw (e, ◌and_then◌))

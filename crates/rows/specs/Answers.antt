@@ -1,79 +1,44 @@
 -- How the rows in code are shown as those of the definitions, and the bounds of their numbers: document 01, "Rows", "A row is answered as its values or a refusal
 -- with its reason". Assumes nothing.
-use Rattle.std.specs.Prelude.{ℕ, ◌<◌, ◌≡◌, [], ◌∷◌, pos}
-use Rattle.std.proofs.Math.Option.{Option, none, some}
+use Rattle.std.specs.Prelude.{◌≡◌, ◌<◌, [], ◌∷◌, pos, MatchResult}
+use Rattle.std.specs.declared.option.Option.{Option}
+use Rattle.std.specs.declared.option.Option.TheVariants.{None, Some}
+use Rattle.std.specs.declared.result.Result.{Result}
+use Rattle.format.specs.declared.refusal.Refusal.{Refusal}
+use Rattle.format.specs.declared.refusal.Refusal.TheVariants.{Shape}
 use Rattle.format.specs.Rows.{AtomRow, Row, row}
 use Rattle.symbols.specs.ShownSymbols.{sym_of_mark}
-use Rattle.symbols.specs.declared.Mark.{Mark}
-use Rattle.rows.specs.declared.atom.AtomRow.{AtomRow as AtomAnswer}
-use Rattle.rows.specs.declared.atom.AtomRow.TheVariants as A
+use Rattle.rows.specs.declared.atom.AtomRow.{AtomRow as AtomKept}
 use Rattle.rows.specs.declared.bond.BondRow.{BondRow}
-use Rattle.rows.specs.declared.bond.BondRow.TheVariants as B
 use Rattle.rows.specs.declared.centre.CentreRow.{CentreRow}
-use Rattle.rows.specs.declared.centre.CentreRow.TheVariants as C
 use Rattle.rows.specs.declared.pair.PairRow.{PairRow}
-use Rattle.rows.specs.declared.pair.PairRow.TheVariants as P
 
--- a row's values, or the refusal's number
-pub data RowAnswer (Values : Type 0) : Type 0 where
-  values : Values → RowAnswer Values
-  refused : ℕ → RowAnswer Values
+-- THE ROW that each struct is
+abbrev pub atom_row_of : AtomKept → AtomRow
+atom_row_of r = record { number = r.number; symbol = sym_of_mark r.mark; hydrogens = r.hydrogens }
 
--- what a line's fields ask for, by the shape that they have: "9 row of the wrong shape"
-abbrev pub as_answer : {Values : Type 0} → Option Values → RowAnswer Values
-as_answer none = refused 9
-as_answer (some r) = values r
+abbrev pub bond_row_of : BondRow → Row
+bond_row_of r = row (r.first ∷ r.second ∷ []) (pos r.kind) 0
 
--- NUMBER AND VALUES of each case
-abbrev pub atom_row_of : (number : ℕ) → Mark → (hydrogens : ℕ) → AtomRow
-atom_row_of n x h = record { number = n; symbol = sym_of_mark x; hydrogens = h }
+abbrev pub centre_row_of : CentreRow → Row
+centre_row_of r = row (r.atom ∷ []) (pos r.side) r.group
 
-abbrev pub atom_shown : AtomAnswer → RowAnswer AtomRow
-atom_shown (A.Values n x h) = values (atom_row_of n x h)
-atom_shown (A.Refused n) = refused n
+abbrev pub pair_row_of : PairRow → Row
+pair_row_of r = row (r.first ∷ r.second ∷ []) (pos r.side) r.group
 
-abbrev pub bond_shown : BondRow → RowAnswer Row
-bond_shown (B.Values n m v) = values (row (n ∷ m ∷ []) (pos v) 0)
-bond_shown (B.Refused n) = refused n
-
-abbrev pub centre_shown : CentreRow → RowAnswer Row
-centre_shown (C.Values n v g) = values (row (n ∷ []) (pos v) g)
-centre_shown (C.Refused n) = refused n
-
-abbrev pub pair_shown : PairRow → RowAnswer Row
-pair_shown (P.Values n m v g) = values (row (n ∷ m ∷ []) (pos v) g)
-pair_shown (P.Refused n) = refused n
-
--- THE BOUNDS of an answer's numbers
-abbrev pub AtomSmall : AtomAnswer → Type 0
-AtomSmall (A.Values n x h) = (n < 1000000) × (x.mass < 1000) × (h < 1000000)
-AtomSmall (A.Refused n) = Unit {0}
+-- THE BOUNDS of its numbers
+abbrev pub AtomSmall : AtomKept → Type 0
+AtomSmall r = (r.number < 1000000) × (r.mark.mass < 1000) × (r.hydrogens < 1000000)
 
 abbrev pub BondSmall : BondRow → Type 0
-BondSmall (B.Values n m v) = (n < 1000000) × (m < 1000000) × (v < 6)
-BondSmall (B.Refused n) = Unit {0}
+BondSmall r = (r.first < 1000000) × (r.second < 1000000) × (r.kind < 6)
 
 abbrev pub CentreSmall : CentreRow → Type 0
-CentreSmall (C.Values n v g) = (n < 1000000) × (v < 3) × (g < 123)
-CentreSmall (C.Refused n) = Unit {0}
+CentreSmall r = (r.atom < 1000000) × (r.side < 3) × (r.group < 123)
 
 abbrev pub PairSmall : PairRow → Type 0
-PairSmall (P.Values n m v g) = (n < 1000000) × (m < 1000000) × (v < 3) × (g < 123)
-PairSmall (P.Refused n) = Unit {0}
+PairSmall r = (r.first < 1000000) × (r.second < 1000000) × (r.side < 3) × (r.group < 123)
 
--- WHAT A READER PROMISES of its answer r to what is asked
-pub record ShowsAtomRow (asked : Option AtomRow) (r : AtomAnswer) : Type 0 where
-  pub is : atom_shown r ≡ as_answer asked
-  pub small : AtomSmall r
-
-pub record ShowsBondRow (asked : Option Row) (r : BondRow) : Type 0 where
-  pub is : bond_shown r ≡ as_answer asked
-  pub small : BondSmall r
-
-pub record ShowsCentreRow (asked : Option Row) (r : CentreRow) : Type 0 where
-  pub is : centre_shown r ≡ as_answer asked
-  pub small : CentreSmall r
-
-pub record ShowsPairRow (asked : Option Row) (r : PairRow) : Type 0 where
-  pub is : pair_shown r ≡ as_answer asked
-  pub small : PairSmall r
+-- WHAT A READER PROMISES of its answer to what is asked: the row, or "9 row of the wrong shape" where there is none
+abbrev pub ShowsRow : {Kept Row : Type 0} → (Kept → Row) → (asked : Option Row) → Result Kept Refusal → Type 0
+ShowsRow row_of asked r = MatchResult r (λ k. asked ≡ Some (row_of k)) (λ e. (asked ≡ None) × (e ≡ Shape))

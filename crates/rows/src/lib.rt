@@ -1,4 +1,4 @@
-// Rows: one reader a row kind, a slice in, its values or a refusal with its number out. No table here.
+// Rows: one reader a row kind, a slice in, its values or the refusal of a wrong shape out. No table here.
 #![tactic(auto)]
 
 pub mod atom; // atom.rt: a row of ATOMLIST

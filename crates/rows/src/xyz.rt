@@ -1,71 +1,73 @@
 // A row of XYZ: document 02, L2 ("Rows are an atom and three signed numbers of 1 to 6 digits").
-ghost use Rattle.std.specs.Prelude.{◌≡◌, ◌≤◌, length};
+ghost use Rattle.std.specs.Prelude.{◌≡◌, ◌≤◌, length, IfOk, IfSome, option_map};
 ghost use Rattle.format.specs.Bytes.{fields};
 ghost use Rattle.format.specs.Coordinates.{xyz_shape};
-ghost use Rattle.rows.specs.XyzRows.{SignedSmall, lifted_at, ShowsLifted, ShowsXyzRow};
+ghost use Rattle.rows.specs.Answers.{ShowsRow};
+ghost use Rattle.rows.specs.Raised.{xyz_row_of, XyzSmall};
+ghost use Rattle.rows.specs.Parts.{ShowsRaised};
 
-use crate::parts::{AtomAt, WRONG_SHAPE, at_end, atom_at};
+use crate::parts::{at_end, atom_at};
 use fields::next_field;
-use numbers::{SignedNumeral, signed};
+use format::refusal::Refusal;
+use numbers::signed;
 
-// An atom and its three numbers, each 1,000,000 above what the row says, or the refusal's number.
+// Raised, so that one kind of cell, natural numbers, keeps them: the scratch is lent as such.
+// An atom and its three numbers, each 1,000,000 above what the row says.
 #[derive(Clone, Copy)]
-pub enum XyzRow {
-    Values(u32, u32, u32, u32),
-    Refused(u32),
+pub struct XyzRow {
+    pub atom: u32,
+    pub x: u32,
+    pub y: u32,
+    pub z: u32,
 }
 
-// A signed number, 1,000,000 above it, and where its field ends, or no shape of one.
+// A signed number, 1,000,000 above it, and where its field ends.
 #[derive(Clone, Copy)]
-pub enum LiftedAt {
-    Number(u32, usize),
-    Wrong,
+pub struct RaisedAt {
+    pub number: u32,
+    pub to: usize,
 }
 
-// How far a signed number is lifted, so that none is below 0.
+// How far a signed number is raised, so that none is below 0.
 pub const LIFT: u32 = 1000000;
 
-// A number with its sign as one natural number: `-0` is 0.
-fn lifted(n: SignedNumeral, to: usize) -> LiftedAt
-    requires { SignedSmall n }
-    ensures { result ≡ lifted_at n to }
-{
-    match n {
-        SignedNumeral::Plus(v) => LiftedAt::Number(LIFT + v, to),
-        SignedNumeral::Minus(v) => LiftedAt::Number(LIFT - v, to),
-        SignedNumeral::Wrong => LiftedAt::Wrong,
-    }
-}
-
 // The first field from `at` on, read as a signed number.
-fn signed_at(line: &[u8], at: usize) -> LiftedAt
+fn raised_at(line: &[u8], at: usize) -> Option<RaisedAt>
     requires { at ≤ length line.now }
-    ensures { ShowsLifted line.now at result }
+    ensures { ShowsRaised line.now at result }
 {
     let field = next_field(line, at);
-    let from = field.from;
-    let to = field.to;
-    lifted(signed(&line[from..to]), to)
+    let number = signed(&line[field.from..field.to])?;
+    Some(RaisedAt {
+        number: (number + LIFT as i32) as u32,
+        to: field.to,
+    })
+}
+
+// The values of a row, if it has the shape of one.
+fn xyz_values(line: &[u8]) -> Option<XyzRow>
+    ensures says { option_map xyz_row_of result ≡ xyz_shape (fields line.now) }
+    ensures small { IfSome result XyzSmall }
+{
+    let atom = atom_at(line, 0)?;
+    let x = raised_at(line, atom.to)?;
+    let y = raised_at(line, x.to)?;
+    let z = raised_at(line, y.to)?;
+    if !at_end(line, z.to) {
+        return None;
+    }
+    Some(XyzRow {
+        atom: atom.number,
+        x: x.number,
+        y: y.number,
+        z: z.number,
+    })
 }
 
 // The values of a row: "an atom and three signed numbers of 1 to 6 digits". The line is without its comment.
-pub fn xyz_row(line: &[u8]) -> XyzRow
-    ensures { ShowsXyzRow (xyz_shape (fields line.now)) result }
+pub fn xyz_row(line: &[u8]) -> Result<XyzRow, Refusal>
+    ensures says { ShowsRow xyz_row_of (xyz_shape (fields line.now)) result }
+    ensures small { IfOk result XyzSmall }
 {
-    let AtomAt::Atom(atom, at) = atom_at(line, 0) else {
-        return XyzRow::Refused(WRONG_SHAPE);
-    };
-    let LiftedAt::Number(x, first) = signed_at(line, at) else {
-        return XyzRow::Refused(WRONG_SHAPE);
-    };
-    let LiftedAt::Number(y, second) = signed_at(line, first) else {
-        return XyzRow::Refused(WRONG_SHAPE);
-    };
-    let LiftedAt::Number(z, third) = signed_at(line, second) else {
-        return XyzRow::Refused(WRONG_SHAPE);
-    };
-    if !at_end(line, third) {
-        return XyzRow::Refused(WRONG_SHAPE);
-    }
-    XyzRow::Values(atom, x, y, z)
+    xyz_values(line).ok_or(Refusal::Shape)
 }

@@ -4,7 +4,8 @@ use Prim.Native.Nat.{ℕ, suc, ◌≤◌, ◌<◌}
 use mathlib.Core.Path.{◌≡◌, refl, sym, ap, ◌∙◌}
 use mathlib.Core.Bool.{Bool, true, false, ◌&&◌, ◌||◌, not}
 use mathlib.Core.Logic.{◌⊎◌, inl, inr}
-use mathlib.Core.Option.{Option, none, some}
+use Rattle.std.specs.declared.option.Option.{Option}
+use Rattle.std.specs.declared.option.Option.TheVariants.{None, Some}
 use mathlib.Core.List.{List, [], ◌∷◌}
 use native.Mathlib.Omega.{arith}
 use lib.ListN.{length}
@@ -124,7 +125,7 @@ module _ (l : ListOf) (n : ℕ) (rs next : List Row) where
       go false true p q f = refused_kept 14 next f
       go false false p q f = inr (record { new = r; is = sym (kept_same (r ∷ rs) next f); fine = o; unmet = p; room = leb-false (most l) (length rs) q })
 
-  row_kept : (r : Row) → Shaped l r → row_after l n rs (some r) ≡ kept next → (next ≡ rs) ⊎ Added l n rs next
+  row_kept : (r : Row) → Shaped l r → row_after l n rs (Some r) ≡ kept next → (next ≡ rs) ⊎ Added l n rs next
   unfolding row_after
   row_kept r s e =
       let o : Row = ordered r in
@@ -139,8 +140,8 @@ module _ (l : ListOf) (n : ℕ) (rs next : List Row) where
   step_kept (f ∷ fs) e = go (row_shape l (f ∷ fs)) refl e
     where
       go : (o : Option Row) → row_shape l (f ∷ fs) ≡ o → row_after l n rs o ≡ kept next → (next ≡ rs) ⊎ Added l n rs next
-      go none p q = refused_kept 9 next q
-      go (some r) p q = row_kept r (row_shaped l (f ∷ fs) r p) q
+      go None p q = refused_kept 9 next q
+      go (Some r) p q = row_kept r (row_shaped l (f ∷ fs) r p) q
 
   pub fits_kept : (fs : List Bytes) → Fits l n rs → row_step l n rs fs ≡ kept next → Fits l n next
   fits_kept fs f e = go (step_kept fs e)

@@ -21,27 +21,14 @@ use Rattle.format.specs.Structure.{most, meets, repeats, clash, row_before, row_
 use Rattle.format.proofs.OrderLaws.{clash_is}
 use Rattle.sorted.specs.Steps.{kept, refused, join_after}
 use Rattle.sorted.specs.Regions.{key_of, payload_of, keyed_region, Fits}
-use Rattle.sorted.specs.Keyed.{keyed, drops, key_at, KeysAscend, Between, behind, with_row, JoinShows, KeptWithin, StopLeaves}
-use Rattle.sorted.specs.declared.after.RowAfter.{RowAfter}
-use Rattle.sorted.specs.declared.after.RowAfter.TheVariants.{Kept, Stop}
+use Rattle.sorted.specs.Keyed.{keyed, drops, key_at, KeysAscend, Between, behind, with_row, JoinShows}
+use Rattle.std.specs.Prelude.{Ok, Err}
+use Rattle.format.specs.Refusals.{number_of}
+use Rattle.format.specs.declared.refusal.Refusal.{Refusal}
 use Rattle.lists.proofs.IndexLaws.{any_index, any_nowhere, span_index}
 use Rattle.sorted.proofs.SearchLaws.{behind_all}
 use Rattle.sorted.proofs.KeyLaws.{repeats_payload, repeats_never}
 use Rattle.sorted.proofs.RegionRows.{no_row, sorted_at, fine_at, payload_at, keys_ascend, meets_at, before_at, region_more}
-
--- COUNTS: an answer's count is within the limit
-pub kept_within : (n limit : ℕ) → n ≤ limit → KeptWithin limit (Kept n)
-kept_within n limit h c e = let q : n ≡ c = cc in omega arith
-
-pub stop_within : (n limit : ℕ) → KeptWithin limit (Stop n)
-stop_within n limit c e = let z : ◌≡◌ {A = ℕ} 0 1 = cc in absurd (omega arith)
-
--- a refusal leaves the region as it is
-pub same_leaves : (t : List ℕ) (a : RowAfter) → StopLeaves t t a
-same_leaves t a n e = refl
-
-pub kept_leaves : (t u : List ℕ) (c : ℕ) → StopLeaves t u (Kept c)
-kept_leaves t u c n e = let z : ◌≡◌ {A = ℕ} 0 1 = cc in absurd (omega arith)
 
 -- THE TABLE of joining
 module _ (l : ListOf) (rs : List Row) (r : Row) where
@@ -135,9 +122,9 @@ module _ (l : ListOf) (k : keyed l ≡ true) (n : ℕ) (h : n < 1024) (rs : List
           (λ b. ap not (before_at l k n h rs f r o p (omega (arith, sort_length row_before rs)) ∙ lt-ltb (key_of r) (key_at (keyed_region l rs) p) (higher_there (omega (arith, sort_length row_before rs)))))
 
 -- WHAT EACH ANSWER SHOWS, t the region as it was, u as it is
-module _ (limit key payload : ℕ) (dropping : Bool) (count : ℕ) (t : List ℕ) (p : ℕ) where
-  key_there : (l : ListOf) (rs : List Row) (r : Row) → key_of r ≡ key → t ≡ keyed_region l rs → key_at t p ≡ key → key_at (keyed_region l rs) p ≡ key_of r
-  key_there l rs r ko e x = ap (λ (v : List ℕ). key_at v p) (sym e) ∙ x ∙ sym ko
+module _ (l : ListOf) (kd : keyed l ≡ true) (limit : ℕ) (m : most l ≡ limit) (key payload count : ℕ) (t : List ℕ) (p : ℕ) where
+  key_there : (rs : List Row) (r : Row) → key_of r ≡ key → t ≡ keyed_region l rs → key_at t p ≡ key → key_at (keyed_region l rs) p ≡ key_of r
+  key_there rs r ko e x = ap (λ (v : List ℕ). key_at v p) (sym e) ∙ x ∙ sym ko
 
   there : (ltb p count && eqb (key_at t p) key) ≡ true → (p < count) × (key_at t p ≡ key)
   there x =
@@ -149,35 +136,35 @@ module _ (limit key payload : ℕ) (dropping : Bool) (count : ℕ) (t : List ℕ
   payload_within h k b x y = omega (arith, (there (sym x ∙ y)).0)
 
   module _ (x : (ltb p count && eqb (key_at t p) key) ≡ true) where
-    -- the key is there, in a list that drops nothing
-    pub shows_met : (u : List ℕ) → dropping ≡ false → JoinShows limit key payload dropping count t u (Stop 13)
-    shows_met u d l n rs r kd h m dr ko po len fi ok e =
-        rw (join_clash l rs r (found_clash l kd n (omega arith) rs fi r ok p (omega (arith, len, (there x).0)) (key_there l rs r ko e (there x).1) (repeats_never l r (sorted_at rs p) (dr ∙ d)))) refl
-
-    payload_there : (l : ListOf) (n : ℕ) (rs : List Row) (r : Row) → keyed l ≡ true → n ≤ 256 → dropping ≡ true → drops l ≡ dropping → payload_of r ≡ payload → length rs ≡ count → Fits l n rs
+    payload_there : (n : ℕ) (rs : List Row) (r : Row) → n ≤ 256 → drops l ≡ true → payload_of r ≡ payload → length rs ≡ count → Fits l n rs
         → row_ok l n r ≡ true → t ≡ keyed_region l rs → repeats l r (sorted_at rs p) ≡ eqb payload (get_or t (2 * p + 1) 0)
-    payload_there l n rs r kd h d dr po len fi ok e =
+    payload_there n rs r h d po len fi ok e =
         let c : p < length rs = omega (arith, len, (there x).0) in
-        repeats_payload l n r (sorted_at rs p) (dr ∙ d) ok (fine_at l kd n (omega arith) rs fi p c)
+        repeats_payload l n r (sorted_at rs p) d ok (fine_at l kd n (omega arith) rs fi p c)
         ∙ rw (po, ← payload_at l kd n (omega arith) rs fi p c, ← e) refl
 
-    -- the key is there with another payload
-    pub shows_clash : (u : List ℕ) → dropping ≡ true → (get_or t (2 * p + 1) 0 ≡ payload → ⊥) → JoinShows limit key payload dropping count t u (Stop 13)
-    shows_clash u d y l n rs r kd h m dr ko po len fi ok e =
-        rw (join_clash l rs r (found_clash l kd n (omega arith) rs fi r ok p (omega (arith, len, (there x).0)) (key_there l rs r ko e (there x).1)
-        (payload_there l n rs r kd h d dr po len fi ok e ∙ ne_eqb payload (get_or t (2 * p + 1) 0) (λ q. y (sym q))))) refl
+    -- the key is there, in a list that drops nothing or with another payload
+    pub shows_clash : (dr : Bool) → drops l ≡ dr → (u : List ℕ) → (dr && eqb (get_or t (2 * p + 1) 0) payload) ≡ false → (e : Refusal) → number_of e ≡ 13 → JoinShows l key payload count t u (Err e)
+    shows_clash dr d u y z w n rs r h ko po len fi ok e =
+        rw (join_clash l rs r (found_clash l kd n (omega arith) rs fi r ok p (omega (arith, len, (there x).0)) (key_there rs r ko e (there x).1) (other dr d y))) w
+      where
+        other : (dr : Bool) → drops l ≡ dr → (dr && eqb (get_or t (2 * p + 1) 0) payload) ≡ false → repeats l r (sorted_at rs p) ≡ false
+        other false d y = repeats_never l r (sorted_at rs p) d
+        other true d y = payload_there n rs r h d po len fi ok e ∙ ne_eqb payload (get_or t (2 * p + 1) 0) (λ q. torn (eqb (get_or t (2 * p + 1) 0) payload) (eq-eqb (get_or t (2 * p + 1) 0) payload (sym q)) y)
 
     -- the same row again
-    pub shows_again : dropping ≡ true → get_or t (2 * p + 1) 0 ≡ payload → JoinShows limit key payload dropping count t t (Kept count)
-    shows_again d y l n rs r kd h m dr ko po len fi ok e =
+    pub shows_again : (dr : Bool) → drops l ≡ dr → (dr && eqb (get_or t (2 * p + 1) 0) payload) ≡ true → JoinShows l key payload count t t (Ok count)
+    shows_again dr d y n rs r h ko po len fi ok e =
+        let d' : drops l ≡ true = d ∙ (and_parts dr (eqb (get_or t (2 * p + 1) 0) payload) y).0 in
+        let y' : get_or t (2 * p + 1) 0 ≡ payload = eqb-true (get_or t (2 * p + 1) 0) payload (and_parts dr (eqb (get_or t (2 * p + 1) 0) payload) y).1 in
         let c : p < length rs = omega (arith, len, (there x).0) in
-        let q : key_at (keyed_region l rs) p ≡ key_of r = key_there l rs r ko e (there x).1 in
-        let g : repeats l r (sorted_at rs p) ≡ true = payload_there l n rs r kd h d dr po len fi ok e ∙ eq-eqb payload (get_or t (2 * p + 1) 0) (sym y) in
-        rw (join_again l rs r (found_repeat l kd n (omega arith) rs fi r ok p c q g) (found_meets l kd n (omega arith) rs fi r ok p c q)) (ap Kept (sym len), e)
+        let q : key_at (keyed_region l rs) p ≡ key_of r = key_there rs r ko e (there x).1 in
+        let g : repeats l r (sorted_at rs p) ≡ true = payload_there n rs r h d' po len fi ok e ∙ eq-eqb payload (get_or t (2 * p + 1) 0) (sym y') in
+        rw (join_again l rs r (found_repeat l kd n (omega arith) rs fi r ok p c q g) (found_meets l kd n (omega arith) rs fi r ok p c q)) (ap Ok (sym len), e)
 
   -- the key is not there
   module _ (le : p ≤ count) (w : KeysAscend count t → Between t count key p p) (x : (ltb p count && eqb (key_at t p) key) ≡ false) where
-    module _ (l : ListOf) (n : ℕ) (rs : List Row) (r : Row) (kd : keyed l ≡ true) (h : n ≤ 256) (ko : key_of r ≡ key) (len : length rs ≡ count) (fi : Fits l n rs) (e : t ≡ keyed_region l rs) where
+    module _ (n : ℕ) (rs : List Row) (r : Row) (h : n ≤ 256) (ko : key_of r ≡ key) (len : length rs ≡ count) (fi : Fits l n rs) (e : t ≡ keyed_region l rs) where
       between_there : Between (keyed_region l rs) (length rs) (key_of r) p p
       between_there =
           let up : KeysAscend count t = subst (λ (c : ℕ). KeysAscend c t) len (subst (λ (v : List ℕ). KeysAscend (length rs) v) (sym e) (keys_ascend l kd n (omega arith) rs fi)) in
@@ -186,20 +173,20 @@ module _ (limit key payload : ℕ) (dropping : Bool) (count : ℕ) (t : List ℕ
       none_there : (ltb p (length rs) && eqb (key_at (keyed_region l rs) p) (key_of r)) ≡ false
       none_there = rw (len, ko, ← e) x
 
-    pub shows_full : (u : List ℕ) → count ≡ limit → JoinShows limit key payload dropping count t u (Stop 14)
-    shows_full u f l n rs r kd h m dr ko po len fi ok e =
-        let a : any (meets l r) rs ≡ false = absent l kd n (omega arith) rs fi r ok p (between_there l n rs r kd h ko len fi e) (none_there l n rs r kd h ko len fi e) in
-        rw (join_full l rs r (clash_meets l rs r a) a (omega (arith, m, len, f))) refl
+    pub shows_full : (u : List ℕ) → count ≡ limit → (e : Refusal) → number_of e ≡ 14 → JoinShows l key payload count t u (Err e)
+    shows_full u f z v n rs r h ko po len fi ok e =
+        let a : any (meets l r) rs ≡ false = absent l kd n (omega arith) rs fi r ok p (between_there n rs r h ko len fi e) (none_there n rs r h ko len fi e) in
+        rw (join_full l rs r (clash_meets l rs r a) a (omega (arith, m, len, f))) v
 
-    pub shows_new : (u : List ℕ) → count < limit → u ≡ with_row t p count key payload → JoinShows limit key payload dropping count t u (Kept (count + 1))
-    shows_new u f g l n rs r kd h m dr ko po len fi ok e =
-        let a : any (meets l r) rs ≡ false = absent l kd n (omega arith) rs fi r ok p (between_there l n rs r kd h ko len fi e) (none_there l n rs r kd h ko len fi e) in
-        let s : span (λ y. not (row_before r y)) (sort row_before rs) ≡ p = absent_place l kd n (omega arith) rs fi r ok p (between_there l n rs r kd h ko len fi e) (none_there l n rs r kd h ko len fi e) (omega (arith, len)) in
+    pub shows_new : (u : List ℕ) → count < limit → u ≡ with_row t p count key payload → JoinShows l key payload count t u (Ok (count + 1))
+    shows_new u f g n rs r h ko po len fi ok e =
+        let a : any (meets l r) rs ≡ false = absent l kd n (omega arith) rs fi r ok p (between_there n rs r h ko len fi e) (none_there n rs r h ko len fi e) in
+        let s : span (λ y. not (row_before r y)) (sort row_before rs) ≡ p = absent_place l kd n (omega arith) rs fi r ok p (between_there n rs r h ko len fi e) (none_there n rs r h ko len fi e) (omega (arith, len)) in
         rw (join_new l rs r (clash_meets l rs r a) a (omega (arith, m, len, f)))
-        (ap Kept (ap (λ (c : ℕ). c + 1) (sym len) ∙ add-one (length rs)), g ∙ rw (← ko, ← po, ← len, e) (region_more l rs r p (omega (arith, len)) (omega (arith, m, len, f)) s))
+        (ap Ok (ap (λ (c : ℕ). c + 1) (sym len) ∙ add-one (length rs)), g ∙ rw (← ko, ← po, ← len, e) (region_more l rs r p (omega (arith, len)) (omega (arith, m, len, f)) s))
 
 -- a row behind all others
-module _ (limit key payload : ℕ) (dropping : Bool) (count : ℕ) (t : List ℕ) where
-  pub shows_last : (u : List ℕ) → behind t count key ≡ true → count < limit → u ≡ with_row t count count key payload → JoinShows limit key payload dropping count t u (Kept (count + 1))
+module _ (l : ListOf) (kd : keyed l ≡ true) (limit : ℕ) (m : most l ≡ limit) (key payload count : ℕ) (t : List ℕ) where
+  pub shows_last : (u : List ℕ) → behind t count key ≡ true → count < limit → u ≡ with_row t count count key payload → JoinShows l key payload count t u (Ok (count + 1))
   shows_last u b =
-      shows_new limit key payload dropping count t count (omega arith) (λ up. behind_all t count key up b) (and_left_false (ltb count count) (eqb (key_at t count) key) (le-ltb count count (omega arith))) u
+      shows_new l kd limit m key payload count t count (omega arith) (λ up. behind_all t count key up b) (and_left_false (ltb count count) (eqb (key_at t count) key) (le-ltb count count (omega arith))) u

@@ -5,7 +5,7 @@ use mathlib.Core.Path.{◌≡◌, refl, sym, ap, ◌∙◌}
 use mathlib.Core.Bool.{Bool, true, false, ◌&&◌, ◌||◌, and-true, or-false}
 use mathlib.Core.List.{List, [], ◌∷◌}
 use native.Mathlib.Omega.{arith}
-use lib.ListN.{length, get_or}
+use lib.ListN.{length}
 use lib.IntN.{nat_abs}
 use lib.Dec.{eqb, ltb, leb}
 use borrow.Author.Tests.{leb-true, eqb-true, eq-eqb, ne_eqb, lt-ltb, le-ltb}
@@ -18,7 +18,7 @@ use Rattle.format.specs.Bytes.{within, same}
 use Rattle.format.specs.Labels.{ListOf, Bonds, Charges, Radicals, Centres, Pairs}
 use Rattle.format.specs.Rows.{Row}
 use Rattle.format.specs.Structure.{arity, group_ok, meets, repeats, atoms_before, row_before, row_ok}
-use Rattle.sorted.specs.Regions.{key_of, payload_of}
+use Rattle.sorted.specs.Regions.{key_from, key_of, payload_of}
 use Rattle.sorted.specs.Keyed.{keyed, drops}
 use Rattle.sorted.proofs.FitLaws.{row_fits_lem}
 
@@ -45,9 +45,6 @@ module _ (b d : ℕ) (p : b < 1024) (q : d < 1024) where
       go (equal h) (greater k) = rw (eq-eqb a c h, ne_eqb b d (omega arith)) (ne_eqb (1024 * a + b) (1024 * c + d) (omega arith))
 
 -- ONE ATOM OR TWO, each listed
-abbrev pub key_from : List ℕ → ℕ
-key_from ns = 1024 * get_or ns 0 0 + get_or ns 1 0
-
 small : (n x : ℕ) → n < 1024 → within 1 n x ≡ true → x < 1024
 unfolding within
 small n x h e = let k : x ≤ n = leb-true x n (and_parts (leb 1 x) (leb x n) e).1 in omega arith

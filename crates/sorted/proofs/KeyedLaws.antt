@@ -1,9 +1,9 @@
 -- A line of BONDLIST, STEREOCENTER or STEREOPAIR, what the three share: a row whose values are in hand is refused 11 or 13, or joins its list with the lower atom
 -- first; a line without fields leaves the list. Document 01, "Rows", "Refusal numbers". Assumes nothing.
 use Prim.Native.Nat.{ℕ, ◌+◌, ◌*◌, ◌≤◌, ◌<◌}
-use mathlib.Core.Path.{◌≡◌, refl, sym, ap, ◌∙◌}
+use mathlib.Core.Path.{◌≡◌, refl, sym, ap, ◌∙◌, subst}
 use mathlib.Core.Bool.{Bool, true, false, ◌&&◌}
-use mathlib.Core.Option.{none, some}
+use Rattle.std.specs.declared.option.Option.TheVariants.{None, Some}
 use mathlib.Core.List.{List, [], ◌∷◌}
 use native.Mathlib.Omega.{arith}
 use lib.Dec.{eqb, ltb, leb}
@@ -18,26 +18,25 @@ use Rattle.lists.proofs.SortLaws.{insert_here, insert_past}
 use Rattle.format.specs.Bytes.{Bytes, within, fields}
 use Rattle.format.specs.Labels.{ListOf, Bonds, Charges, Radicals, Centres, Pairs}
 use Rattle.format.specs.Rows.{Row, row_shape}
-use Rattle.format.specs.Structure.{most, ranged}
+use Rattle.format.specs.Structure.{ranged}
 use Rattle.format.specs.Reading.{ordered}
 use Rattle.fields.specs.NextFields.{NextField}
 use Rattle.fields.specs.declared.Field.{Field}
-use Rattle.rows.specs.Answers.{values, refused as rowRefused, as_answer}
-use Rattle.rows.proofs.AnswerLaws.{values_some, refused_none}
-use Rattle.sorted.specs.Steps.{After, kept, refused, join_after, row_after, row_step}
-use Rattle.sorted.specs.Regions.{payload_of, keyed_region}
-use Rattle.sorted.specs.Shown.{ShowsAfter, ShowsLine, LineWithin}
-use Rattle.sorted.specs.Keyed.{keyed, drops, region_fits, in_order, JoinShows, KeptWithin, RowShows, on_line, LineShows}
-use Rattle.sorted.specs.declared.after.RowAfter.{RowAfter}
-use Rattle.sorted.specs.declared.after.RowAfter.TheVariants.{Kept, Stop}
-use Rattle.sorted.specs.declared.after.LineAfter.{LineAfter}
-use Rattle.sorted.specs.declared.after.LineAfter.TheVariants as L
+use Rattle.std.specs.Prelude.{Result, Ok, Err, min, max}
+use Rattle.format.specs.Refusals.{number_of}
+use Rattle.format.specs.declared.refusal.Refusal.{Refusal}
+use Rattle.format.specs.declared.refusal.Refusal.TheVariants.{AtomNumber, Clash}
+use Rattle.lists.proofs.PairLaws.{pairs_one}
+use Rattle.lists.proofs.LexLaws.{Sides, less, equal, greater, sides}
+use Rattle.sorted.specs.Steps.{kept, refused, join_after, row_after, row_step}
+use Rattle.sorted.specs.Regions.{key_from, payload_of}
+use Rattle.sorted.specs.Keyed.{keyed, region_fits, in_order, key_given, key_answer, atoms_in, ShowsKeyedRow, JoinShows, RowShows, StepShows}
+use Rattle.sorted.specs.declared.kinds.KeyedRow.{KeyedRow}
 use Rattle.sorted.proofs.ShapeLaws.{row_shaped, bond_ranged, centre_ranged, pair_ranged}
 use Rattle.sorted.proofs.FitLaws.{ordered_fits}
-use Rattle.sorted.proofs.KeyLaws.{key_from}
 
 -- "values out of their letters" cannot occur
-keyed_ranged : (l : ListOf) (fs : List Bytes) (r : Row) → keyed l ≡ true → row_shape l fs ≡ some r → ranged l r.value ≡ true
+keyed_ranged : (l : ListOf) (fs : List Bytes) (r : Row) → keyed l ≡ true → row_shape l fs ≡ Some r → ranged l r.value ≡ true
 keyed_ranged Bonds fs r k e = bond_ranged fs r e
 keyed_ranged Charges fs r k e = torn false k refl
 keyed_ranged Radicals fs r k e = torn false k refl
@@ -46,35 +45,49 @@ keyed_ranged Pairs fs r k e = pair_ranged fs r e
 
 -- THE TABLE of a row's tests, its value in range
 module _ (l : ListOf) (n : ℕ) (rs : List Row) (r : Row) (v : ranged l r.value ≡ true) where
-  row_unlisted : all (within 1 n) r.atoms ≡ false → row_after l n rs (some r) ≡ refused 11
+  row_unlisted : all (within 1 n) r.atoms ≡ false → row_after l n rs (Some r) ≡ refused 11
   unfolding row_after
   row_unlisted a = rw (v, a)
 
-  row_itself : all (within 1 n) r.atoms ≡ true → pairs eqb r.atoms ≡ true → row_after l n rs (some r) ≡ refused 13
+  row_itself : all (within 1 n) r.atoms ≡ true → pairs eqb r.atoms ≡ true → row_after l n rs (Some r) ≡ refused 13
   unfolding row_after
   row_itself a b = rw (v, a, b)
 
-  row_joins : all (within 1 n) r.atoms ≡ true → pairs eqb r.atoms ≡ false → row_after l n rs (some r) ≡ join_after l rs (ordered r)
+  row_joins : all (within 1 n) r.atoms ≡ true → pairs eqb r.atoms ≡ false → row_after l n rs (Some r) ≡ join_after l rs (ordered r)
   unfolding row_after
   row_joins a b = rw (v, a, b)
 
 -- WHAT EACH ANSWER SHOWS of a row
-module _ (limit : ℕ) (ns : List ℕ) (payload : ℕ) (dropping : Bool) (n count : ℕ) (t u : List ℕ) where
-  pub shows_unlisted : all (within 1 n) ns ≡ false → RowShows limit ns payload dropping n count t u (Stop 11)
-  shows_unlisted a l fs rs r k m d e ns≡ po len fi tt =
-      rw (row_unlisted l n rs r (keyed_ranged l fs r k e) (ap (all (within 1 n)) ns≡ ∙ a)) refl
+module _ (l : ListOf) (k : keyed l ≡ true) (ns : List ℕ) (payload n count : ℕ) (t u : List ℕ) where
+  -- its atoms have no key
+  pub shows_unkeyed : (r : Result ℕ Refusal) (e : Refusal) (y : Result ℕ Refusal) → r ≡ key_answer n ns → r ≡ Err e → y ≡ Err e → RowShows l ns payload n count t u y
+  shows_unkeyed r e y x z o = rw o (go (all (within 1 n) ns) (pairs eqb ns) refl refl (sym z ∙ x))
+    where
+      go : (a b : Bool) → all (within 1 n) ns ≡ a → pairs eqb ns ≡ b → Err e ≡ key_given a b (key_from (sort ltb ns)) → RowShows l ns payload n count t u (Err e)
+      go false b p q z fs rs row s ns≡ po len fi lent =
+          let w : e ≡ AtomNumber = cc in
+          rw (row_unlisted l n rs row (keyed_ranged l fs row k s) (ap (all (within 1 n)) ns≡ ∙ p)) (ap number_of w)
+      go true true p q z fs rs row s ns≡ po len fi lent =
+          let w : e ≡ Clash = cc in
+          rw (row_itself l n rs row (keyed_ranged l fs row k s) (ap (all (within 1 n)) ns≡ ∙ p) (ap (pairs eqb) ns≡ ∙ q)) (ap number_of w)
+      go true false p q z fs rs row s ns≡ po len fi lent = let w : ◌≡◌ {A = ℕ} 0 1 = cc in absurd (omega arith)
 
-  pub shows_itself : all (within 1 n) ns ≡ true → pairs eqb ns ≡ true → RowShows limit ns payload dropping n count t u (Stop 13)
-  shows_itself a b l fs rs r k m d e ns≡ po len fi tt =
-      rw (row_itself l n rs r (keyed_ranged l fs r k e) (ap (all (within 1 n)) ns≡ ∙ a) (ap (pairs eqb) ns≡ ∙ b)) refl
-
-  pub shows_joined : (key : ℕ) (a : RowAfter) → n ≤ 256 → all (within 1 n) ns ≡ true → pairs eqb ns ≡ false → key_from (sort ltb ns) ≡ key
-      → JoinShows limit key payload dropping count t u a → RowShows limit ns payload dropping n count t u a
-  shows_joined key a h b c q j l fs rs r k m d e ns≡ po len fi tt =
+  pub shows_keyed : (key : ℕ) (a : Result ℕ Refusal) → n ≤ 256 → all (within 1 n) ns ≡ true → pairs eqb ns ≡ false → key_from (sort ltb ns) ≡ key
+      → JoinShows l key payload count t u a → RowShows l ns payload n count t u a
+  shows_keyed key a h b c q j fs rs r e ns≡ po len fi lent =
       let b' : all (within 1 n) r.atoms ≡ true = ap (all (within 1 n)) ns≡ ∙ b in
       let c' : pairs eqb r.atoms ≡ false = ap (pairs eqb) ns≡ ∙ c in
       let v : ranged l r.value ≡ true = keyed_ranged l fs r k e in
-      rw (row_joins l n rs r v b' c') (j l n rs (ordered r) k h m d (ap (λ (ms : List ℕ). key_from (sort ltb ms)) ns≡ ∙ q) po len fi (ordered_fits l n r (row_shaped l fs r e) v b' c') tt)
+      rw (row_joins l n rs r v b' c') (j n rs (ordered r) h (ap (λ (ms : List ℕ). key_from (sort ltb ms)) ns≡ ∙ q) po len fi (ordered_fits l n r (row_shaped l fs r e) v b' c') lent)
+
+  -- its atoms have that key
+  pub shows_joined : (r : Result ℕ Refusal) (key : ℕ) → r ≡ key_answer n ns → r ≡ Ok key → n ≤ 256 → (a : Result ℕ Refusal) → JoinShows l key payload count t u a → RowShows l ns payload n count t u a
+  shows_joined r key x y h a j = go (all (within 1 n) ns) (pairs eqb ns) refl refl (sym y ∙ x)
+    where
+      go : (b c : Bool) → all (within 1 n) ns ≡ b → pairs eqb ns ≡ c → Ok key ≡ key_given b c (key_from (sort ltb ns)) → RowShows l ns payload n count t u a
+      go false c p q z = let w : ◌≡◌ {A = ℕ} 0 1 = cc in absurd (omega arith)
+      go true true p q z = let w : ◌≡◌ {A = ℕ} 0 1 = cc in absurd (omega arith)
+      go true false p q z = let w : key_from (sort ltb ns) ≡ key = cc in shows_keyed key a h p q w j
 
 -- ONE ATOM OR TWO
 module _ (n a : ℕ) where
@@ -118,6 +131,29 @@ pub higher_first : (a b : ℕ) → b ≤ a → key_from (sort ltb (a ∷ b ∷ [
 unfolding sort insert
 higher_first a b h = ap key_from (insert_past ltb a b [] (le-ltb a b h))
 
+-- THE KEY that the code answers
+module _ (n a : ℕ) where
+  pub key_unlisted : (ns : List ℕ) → within 1 n a ≡ false → Err AtomNumber ≡ key_answer n (a ∷ ns)
+  key_unlisted ns e = rw (all_out (within 1 n) a ns e) refl
+
+  pub key_one : within 1 n a ≡ true → Ok (1024 * a) ≡ key_answer n (a ∷ [])
+  key_one e = rw (one_listed n a e, pairs_one eqb a, one_key a) refl
+
+  module _ (b : ℕ) (e : within 1 n a ≡ true) where
+    pub key_other : within 1 n b ≡ false → Err AtomNumber ≡ key_answer n (a ∷ b ∷ [])
+    key_other f = rw (second_unlisted n a b e f) refl
+
+    pub key_itself : within 1 n b ≡ true → a ≡ b → Err Clash ≡ key_answer n (a ∷ b ∷ [])
+    key_itself f h = rw (both_listed n a b e f, pair_equal a b h) refl
+
+    pub key_two : within 1 n b ≡ true → (a ≡ b → ⊥) → Ok (1024 * min a b + max a b) ≡ key_answer n (a ∷ b ∷ [])
+    key_two f h = rw (both_listed n a b e f, pair_apart a b h) (ap Ok (sym (go (sides a b))))
+      where
+        go : Sides a b → key_from (sort ltb (a ∷ b ∷ [])) ≡ 1024 * min a b + max a b
+        go (less k) = lower_first a b k ∙ omega arith
+        go (equal k) = absurd (h k)
+        go (greater k) = higher_first a b (omega arith) ∙ omega arith
+
 -- THE TABLE of a line
 module _ (l : ListOf) (n : ℕ) (rs : List Row) where
   step_nil : row_step l n rs [] ≡ kept rs
@@ -129,46 +165,25 @@ module _ (l : ListOf) (n : ℕ) (rs : List Row) where
   step_some [] e = torn true refl e
   step_some (f ∷ fs) e = refl
 
-  row_none : row_after l n rs none ≡ refused 9
+  row_none : row_after l n rs None ≡ refused 9
   unfolding row_after
   row_none = refl
 
--- A LINE'S COUNT is within the limit
-pub line_within : (n limit : ℕ) → n ≤ limit → LineWithin limit (L.Kept n)
-line_within n limit h c e = let q : n ≡ c = cc in omega arith
-
-pub refused_within : (n place limit : ℕ) → LineWithin limit (L.Refused n place)
-refused_within n place limit c e = let z : ◌≡◌ {A = ℕ} 0 1 = cc in absurd (omega arith)
-
--- A ROW'S ANSWER handed on as its line's
-module _ (place : ℕ) (a : RowAfter) (y : LineAfter) (o : y ≡ on_line place a) where
-  pub handed_within : (limit : ℕ) → KeptWithin limit a → LineWithin limit y
-  handed_within limit h c e = go a (sym o ∙ e) h
-    where
-      go : (b : RowAfter) → on_line place b ≡ L.Kept c → KeptWithin limit b → c ≤ limit
-      go (Kept n) q k = k c (let z : n ≡ c = cc in ap Kept z)
-      go (Stop n) q k = refused_within n place limit c q
-
-  pub handed_shows : {A : Type 0} (shown : List A → List ℕ) (u : List ℕ) (next : After A) → ShowsAfter shown u a next → ShowsLine shown place u y next
-  handed_shows shown u (kept rows) s = (o ∙ ap (on_line place) s.0, s.1)
-  handed_shows shown u (refused n) s = o ∙ ap (on_line place) s
-
 -- A LINE: no field, no shape, a row
-module _ (l : ListOf) (n count : ℕ) (line : List ℕ) (place : ℕ) (t : List ℕ) where
-  pub shows_blank : is_nil (fields line) ≡ true → LineShows l n count line place t t (L.Kept count)
-  shows_blank e rs len fi tt = rw (ap (row_step l n rs) (nil_is (fields line) e) ∙ step_nil l n rs) (ap L.Kept (sym len), tt)
+module _ (l : ListOf) (n count : ℕ) (line : List ℕ) (t : List ℕ) where
+  pub shows_blank : is_nil (fields line) ≡ true → StepShows l n count line t t (Ok count)
+  shows_blank e rs len fi lent = rw (ap (row_step l n rs) (nil_is (fields line) e) ∙ step_nil l n rs) (ap Ok (sym len), lent)
 
-  module _ (x : is_nil (fields line) ≡ false) (u : List ℕ) where
-    pub shows_refused : (number : ℕ) → rowRefused number ≡ as_answer (row_shape l (fields line)) → LineShows l n count line place t u (L.Refused number place)
-    shows_refused number e rs len fi tt =
-        let q = refused_none (row_shape l (fields line)) number e in
-        rw (step_some l n rs (fields line) x ∙ ap (row_after l n rs) q.1 ∙ row_none l n rs) (ap (λ (k : ℕ). L.Refused k place) q.0)
+  module _ (x : is_nil (fields line) ≡ false) (r : Result KeyedRow Refusal) (s : ShowsKeyedRow l line r) (u : List ℕ) (y : Result ℕ Refusal) where
+    pub shows_unshaped : (e : Refusal) → r ≡ Err e → y ≡ Err e → StepShows l n count line t u y
+    shows_unshaped e z o rs len fi lent =
+        let q : (row_shape l (fields line) ≡ None) × (number_of e ≡ 9) = subst (λ (w : Result KeyedRow Refusal). ShowsKeyedRow l line w) z s in
+        rw (o, step_some l n rs (fields line) x ∙ ap (row_after l n rs) q.0 ∙ row_none l n rs) q.1
 
-    pub shows_row : (limit payload : ℕ) (ns : List ℕ) (dropping : Bool) (a : RowAfter) (y : LineAfter) (r : Row) → keyed l ≡ true → most l ≡ limit → drops l ≡ dropping
-        → values r ≡ as_answer (row_shape l (fields line)) → r.atoms ≡ ns → payload_of r ≡ payload → y ≡ on_line place a → RowShows limit ns payload dropping n count t u a → LineShows l n count line place t u y
-    shows_row limit payload ns dropping a y r k m d e ns≡ po o j rs len fi tt =
-        let q : row_shape l (fields line) ≡ some r = values_some (row_shape l (fields line)) r e in
-        rw (step_some l n rs (fields line) x ∙ ap (row_after l n rs) q) (handed_shows place a y o (keyed_region l) u (row_after l n rs (some r)) (j l (fields line) rs r k m d q ns≡ po len fi tt))
+    pub shows_row : (k : KeyedRow) → r ≡ Ok k → RowShows l (atoms_in k) k.payload n count t u y → StepShows l n count line t u y
+    shows_row k z j rs len fi lent =
+        let q : (w : Row) × (row_shape l (fields line) ≡ Some w) × (w.atoms ≡ atoms_in k) × (payload_of w ≡ k.payload) = subst (λ (w : Result KeyedRow Refusal). ShowsKeyedRow l line w) z s in
+        rw (step_some l n rs (fields line) x ∙ ap (row_after l n rs) q.1) (j (fields line) rs q.0 q.1 q.2 q.3 len fi lent)
 
 -- WHAT THE CODE'S TESTS TELL
 le_ne_lt : (a b : ℕ) → a ≤ b → (a ≡ b → ⊥) → a < b
@@ -221,10 +236,10 @@ module _ (n a b : ℕ) where
     pub order_below : a < b
     order_below = ltb-true a b (and_parts (within 1 n b) (ltb a b) (and_parts (within 1 n a) _ e).1).1
 
-  pub shows_ordered : (limit payload : ℕ) (dropping : Bool) (count : ℕ) (t u : List ℕ) (r : RowAfter) → n ≤ 256 → in_order n a b ≡ true → JoinShows limit (1024 * a + b) payload dropping count t u r
-      → RowShows limit (a ∷ b ∷ []) payload dropping n count t u r
-  shows_ordered limit payload dropping count t u r h e j =
-      shows_joined limit (a ∷ b ∷ []) payload dropping n count t u (1024 * a + b) r h (both_listed n a b (order_first e) (order_second e)) (pair_apart a b (λ q. omega (arith, q, order_below e))) (lower_first a b (order_below e)) j
+  pub shows_ordered : (payload count : ℕ) (t u : List ℕ) (r : Result ℕ Refusal) → n ≤ 256 → in_order n a b ≡ true → JoinShows Bonds (1024 * a + b) payload count t u r
+      → RowShows Bonds (a ∷ b ∷ []) payload n count t u r
+  shows_ordered payload count t u r h e j =
+      shows_keyed Bonds refl (a ∷ b ∷ []) payload n count t u (1024 * a + b) r h (both_listed n a b (order_first e) (order_second e)) (pair_apart a b (λ q. omega (arith, q, order_below e))) (lower_first a b (order_below e)) j
 
 -- THE REGION THAT IS LENT
 module _ (long size count limit atoms : ℕ) where

@@ -7,5 +7,5 @@ pub mod GapLaws
 pub mod RegionRows
 pub mod JoinLaws
 pub mod KeyedLaws
-pub mod KeyedLines
+pub mod HandedLaws
 pub mod GeometryLaws

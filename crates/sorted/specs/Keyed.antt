@@ -1,18 +1,21 @@
 -- The sorted lists in their regions, two numbers a row: which lists stand so, where a key belongs, a region with one row more, and what a line's answer and the
 -- region after it show: document 01, "Rows", BONDLIST, STEREOCENTER, STEREOPAIR. Assumes nothing.
-use Rattle.std.specs.Prelude.{ℕ, ◌+◌, ◌-◌, ◌*◌, ◌≤◌, ◌<◌, ◌≡◌, Bool, true, false, ◌&&◌, ◌||◌, List, ◌∷◌, ◌++◌, length, get_or, take, drop, eqb, ltb, leb}
-use Rattle.std.proofs.Math.Option.{some}
+use Rattle.std.specs.Prelude.{ℕ, ◌+◌, ◌-◌, ◌*◌, ◌≤◌, ◌<◌, ◌≡◌, Bool, true, false, ◌&&◌, ◌||◌, List, ◌∷◌, ◌++◌, length, get_or, take, drop, eqb, ltb, leb, option_to_list, refl, Result, Ok, Err}
+use Rattle.std.specs.declared.option.Option.TheVariants.{None, Some}
+use Rattle.lists.specs.Lists.{all, pairs}
+use Rattle.lists.specs.Order.{sort}
 use Rattle.format.specs.Bytes.{Bytes, fields, within}
 use Rattle.format.specs.Labels.{ListOf, Bonds, Charges, Radicals, Centres, Pairs}
 use Rattle.format.specs.Rows.{Row, row_shape}
 use Rattle.format.specs.Structure.{most, row_ok}
+use Rattle.format.specs.Refusals.{number_of}
+use Rattle.format.specs.declared.refusal.Refusal.{Refusal}
+use Rattle.format.specs.declared.refusal.Refusal.TheVariants.{AtomNumber, Clash}
+use Rattle.format.specs.declared.refusal.Refused.{Refused}
 use Rattle.sorted.specs.Steps.{join_after, row_after, row_step}
-use Rattle.sorted.specs.Regions.{key_of, payload_of, keyed_region, Fits}
+use Rattle.sorted.specs.Regions.{key_from, key_of, payload_of, keyed_region, Fits}
+use Rattle.sorted.specs.declared.kinds.KeyedRow.{KeyedRow}
 use Rattle.sorted.specs.Shown.{ShowsAfter, ShowsLine}
-use Rattle.sorted.specs.declared.after.RowAfter.{RowAfter}
-use Rattle.sorted.specs.declared.after.RowAfter.TheVariants.{Kept, Stop}
-use Rattle.sorted.specs.declared.after.LineAfter.{LineAfter}
-use Rattle.sorted.specs.declared.after.LineAfter.TheVariants as L
 
 -- whether a list's rows stand by key; whether one that repeats another is dropped: "The same pair and kind again is dropped"
 abbrev pub keyed : ListOf → Bool
@@ -20,6 +23,26 @@ keyed l = elim l [ Bonds ↦ true | Charges ↦ false | Radicals ↦ false | Cen
 
 abbrev pub drops : ListOf → Bool
 drops l = elim l [ Bonds ↦ true | Charges ↦ false | Radicals ↦ false | Centres ↦ false | Pairs ↦ false ]
+
+-- how many rows bonds have at most, and centres and pairs
+abbrev pub bonds_limit : ℕ
+bonds_limit = 512
+
+abbrev pub marks_limit : ℕ
+marks_limit = 128
+
+-- their limits
+pub most_bonds : most Bonds ≡ 512
+unfolding most
+most_bonds = refl
+
+pub most_centres : most Centres ≡ 128
+unfolding most
+most_centres = refl
+
+pub most_pairs : most Pairs ≡ 128
+unfolding most
+most_pairs = refl
 
 -- THE PLACE OF A KEY among the keys of so many rows: those before `low` are lower, those from `high` on are not
 abbrev pub key_at : List ℕ → ℕ → ℕ
@@ -44,19 +67,11 @@ opened t from to w = take (from + w) t ++ (take (to - from) (drop from t) ++ dro
 unfoldable pub with_row : List ℕ → (place count key payload : ℕ) → List ℕ
 with_row t place count key payload = take (2 * place) t ++ (key ∷ payload ∷ (take (2 * count - 2 * place) (drop (2 * place) t) ++ drop (2 * count + 2) t))
 
--- WHAT AN ANSWER SHOWS of joining a row: of every list by key with that limit, and every row of it with that key and payload
-abbrev pub JoinShows : (most key payload : ℕ) (dropping : Bool) (count : ℕ) (before after : List ℕ) → RowAfter → Type 0
-JoinShows limit key payload dropping count before after a =
-    (l : ListOf) (n : ℕ) (rs : List Row) (r : Row) → keyed l ≡ true → n ≤ 256 → most l ≡ limit → drops l ≡ dropping → key_of r ≡ key → payload_of r ≡ payload
+-- WHAT AN ANSWER SHOWS of joining a row: of every row of the list with that key and payload
+abbrev pub JoinShows : ListOf → (key payload count : ℕ) (before after : List ℕ) → Result ℕ Refusal → Type 0
+JoinShows l key payload count before after a =
+    (n : ℕ) (rs : List Row) (r : Row) → n ≤ 256 → key_of r ≡ key → payload_of r ≡ payload
     → length rs ≡ count → Fits l n rs → row_ok l n r ≡ true → before ≡ keyed_region l rs → ShowsAfter (keyed_region l) after a (join_after l rs r)
-
--- an answer's count is within the limit
-abbrev pub KeptWithin : ℕ → RowAfter → Type 0
-KeptWithin limit a = (c : ℕ) → a ≡ Kept c → c ≤ limit
-
--- a refusal leaves the region as it is
-abbrev pub StopLeaves : (before after : List ℕ) → RowAfter → Type 0
-StopLeaves before after a = (n : ℕ) → a ≡ Stop n → after ≡ before
 
 -- whether a region is one that a reading lends: of its list's size, with no more rows and atoms than there may be
 abbrev pub region_fits : (long size count limit atoms : ℕ) → Bool
@@ -66,18 +81,34 @@ region_fits long size count limit atoms = eqb long size && (leb count limit && l
 abbrev pub in_order : (n first second : ℕ) → Bool
 in_order n first second = within 1 n first && (within 1 n second && ltb first second)
 
--- of a row whose values are in hand: of every list by key with that limit, and every row of it with those atoms and that payload that a line can say
-abbrev pub RowShows : (most : ℕ) (ns : List ℕ) (payload : ℕ) (dropping : Bool) (n count : ℕ) (before after : List ℕ) → RowAfter → Type 0
-RowShows limit ns payload dropping n count before after a =
-    (l : ListOf) (fs : List Bytes) (rs : List Row) (r : Row) → keyed l ≡ true → most l ≡ limit → drops l ≡ dropping → row_shape l fs ≡ some r → r.atoms ≡ ns → payload_of r ≡ payload
-    → length rs ≡ count → Fits l n rs → before ≡ keyed_region l rs → ShowsAfter (keyed_region l) after a (row_after l n rs (some r))
+-- the key of a row's atoms, the lower one first, n atoms listed; its refusal where one is not listed, or "an atom with itself"
+abbrev pub key_given : (listed itself : Bool) → (key : ℕ) → Result ℕ Refusal
+key_given false itself key = Err AtomNumber
+key_given true true key = Err Clash
+key_given true false key = Ok key
 
--- a row's answer as its line's: a refusal is handed on with the line's place
-abbrev pub on_line : (place : ℕ) → RowAfter → LineAfter
-on_line place (Kept c) = L.Kept c
-on_line place (Stop n) = L.Refused n place
+abbrev pub key_answer : (n : ℕ) → List ℕ → Result ℕ Refusal
+key_answer n ns = key_given (all (within 1 n) ns) (pairs eqb ns) (key_from (sort ltb ns))
 
--- of a line
-abbrev pub LineShows : ListOf → (n count : ℕ) (line : List ℕ) (place : ℕ) (before after : List ℕ) → LineAfter → Type 0
+-- WHAT A LINE'S ROW SAYS: its atoms as they stand, and its value and group as one payload
+abbrev pub atoms_in : KeyedRow → List ℕ
+atoms_in k = k.first ∷ option_to_list k.second
+
+abbrev pub ShowsKeyedRow : ListOf → (line : List ℕ) → Result KeyedRow Refusal → Type 0
+ShowsKeyedRow l line (Ok k) = (r : Row) × (row_shape l (fields line) ≡ Some r) × (r.atoms ≡ atoms_in k) × (payload_of r ≡ k.payload)
+ShowsKeyedRow l line (Err e) = (row_shape l (fields line) ≡ None) × (number_of e ≡ 9)
+
+-- of a row whose values are in hand: of every row of the list with those atoms and that payload that a line can say
+abbrev pub RowShows : ListOf → (ns : List ℕ) (payload n count : ℕ) (before after : List ℕ) → Result ℕ Refusal → Type 0
+RowShows l ns payload n count before after a =
+    (fs : List Bytes) (rs : List Row) (r : Row) → row_shape l fs ≡ Some r → r.atoms ≡ ns → payload_of r ≡ payload
+    → length rs ≡ count → Fits l n rs → before ≡ keyed_region l rs → ShowsAfter (keyed_region l) after a (row_after l n rs (Some r))
+
+-- of a line, and of a line with its place
+abbrev pub StepShows : ListOf → (n count : ℕ) (line : List ℕ) (before after : List ℕ) → Result ℕ Refusal → Type 0
+StepShows l n count line before after a =
+    (rs : List Row) → length rs ≡ count → Fits l n rs → before ≡ keyed_region l rs → ShowsAfter (keyed_region l) after a (row_step l n rs (fields line))
+
+abbrev pub LineShows : ListOf → (n count : ℕ) (line : List ℕ) (place : ℕ) (before after : List ℕ) → Result ℕ Refused → Type 0
 LineShows l n count line place before after a =
     (rs : List Row) → length rs ≡ count → Fits l n rs → before ≡ keyed_region l rs → ShowsLine (keyed_region l) place after a (row_step l n rs (fields line))

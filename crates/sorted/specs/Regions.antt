@@ -42,8 +42,11 @@ unfoldable pub spread_region : List Row → List ℕ
 spread_region rs = members_from 256 1 rs ++ (filled 0 64 (arrived rs) ++ (void_of rs ∷ []))
 
 -- Bonds, centres and pairs, sorted, two numbers a row: the atoms as one key, the value and the group as one number
+abbrev pub key_from : List ℕ → ℕ
+key_from ns = 1024 * get_or ns 0 0 + get_or ns 1 0
+
 abbrev pub key_of : Row → ℕ
-key_of r = 1024 * get_or r.atoms 0 0 + get_or r.atoms 1 0
+key_of r = key_from r.atoms
 
 abbrev pub payload_of : Row → ℕ
 payload_of r = 256 * nat_abs r.value + r.group

@@ -1,7 +1,8 @@
 -- One line of a list, told of the list alone: document 01, "Rows". The definitions tell the same of the whole state (Reading.atom_line, row_line); gather's
 -- StepLaws has the two equations. Assumes nothing.
 use Rattle.std.specs.Prelude.{ℕ, suc, Bool, true, false, ◌&&◌, not, List, [], ◌∷◌, ◌++◌, length, eqb, leb}
-use Rattle.std.proofs.Math.Option.{Option, none, some}
+use Rattle.std.specs.declared.option.Option.{Option}
+use Rattle.std.specs.declared.option.Option.TheVariants.{None, Some}
 use Rattle.lists.specs.Lists.{all, any, pairs}
 use Rattle.format.specs.Bytes.{Bytes, within}
 use Rattle.format.specs.Labels.{ListOf}
@@ -21,8 +22,8 @@ if false breaks n else next = next
 
 -- ATOMLIST, k elements known
 unfoldable pub atom_after : (k : ℕ) → List Atom → Option AtomRow → After Atom
-atom_after k listed none = refused 9
-atom_after k listed (some r) =
+atom_after k listed None = refused 9
+atom_after k listed (Some r) =
     if not (mass_ok r.symbol && leb r.hydrogens 15) breaks 10
     else if not (eqb r.number (suc (length listed))) breaks 11
     else if unknown k r.symbol breaks 12
@@ -44,8 +45,8 @@ join_after l rs r = if any (clash l r) rs breaks 13 else joined_as (any (meets l
 
 -- one of the five lists, n atoms listed, its rows latest first
 unfoldable pub row_after : ListOf → (n : ℕ) → List Row → Option Row → After Row
-row_after l n rs none = refused 9
-row_after l n rs (some r) =
+row_after l n rs None = refused 9
+row_after l n rs (Some r) =
     if not (ranged l r.value) breaks 10
     else if not (all (within 1 n) r.atoms) breaks 11
     else if pairs eqb r.atoms breaks 13

@@ -1,19 +1,19 @@
 // A row put to its place among the rows of a sorted list, which stand in a region that is lent, two numbers a row: the atoms as one key, the value and the group
 // as one payload. Rows mostly come in order, so the last row is compared first, and only where that does not settle it a place is searched for.
 ghost use Rattle.std.specs.Prelude.{◌≡◌, ◌&&◌, ◌+◌, ◌*◌, ◌≤◌, ◌<◌, length, eqb, ltb};
-ghost use Rattle.sorted.specs.Keyed.{KeysAscend, Between, key_at, behind, opened, with_row, JoinShows, KeptWithin, StopLeaves};
+ghost use Rattle.sorted.specs.Shown.{KeptWithin, StopLeaves};
+ghost use Rattle.sorted.specs.Keyed.{KeysAscend, Between, key_at, behind, opened, with_row, JoinShows};
 
-use crate::after::RowAfter;
+use crate::kinds::KeyedList;
+use format::refusal::Refusal;
 
 // The cells from `from` up to `to` move up by w, the last first.
 fn open_gap(region: &mut [u32], from: usize, to: usize, w: usize)
     requires { (from ≤ to) × (to + w ≤ length region.old) × (0 < w) }
     ensures { (length region.new ≡ length region.old) × (region.new ≡ opened region.old from to w) }
 {
-    let mut j = to;
-    while from < j {
-        j = j - 1;
-        region[j + w] = region[j];
+    for i in (from..to).rev() {
+        region[i + w] = region[i];
     }
 }
 
@@ -22,17 +22,8 @@ fn place_of(region: &[u32], count: usize, key: u32) -> usize
     requires { (2 * count ≤ length region.now) × (count ≤ 512) }
     ensures { (result ≤ count) × (KeysAscend count region.now → Between region.now count key result result) }
 {
-    let mut low = 0;
-    let mut high = count;
-    while low < high {
-        let middle = (low + high) / 2;
-        if region[2 * middle] < key {
-            low = middle + 1;
-        } else {
-            high = middle;
-        }
-    }
-    low
+    let (rows, _) = region[..2 * count].as_chunks::<2>();
+    rows.partition_point(|row| row[0] < key)
 }
 
 // Whether there is a row at the place, and it has the key.
@@ -40,10 +31,7 @@ fn stands_at(region: &[u32], count: usize, place: usize, key: u32) -> bool
     requires { (2 * count ≤ length region.now) × (count ≤ 512) }
     ensures { result ≡ (ltb place count && eqb (key_at region.now place) key) }
 {
-    if place < count {
-        return region[2 * place] == key;
-    }
-    false
+    place < count && region[2 * place] == key
 }
 
 // The row goes to its place among the rows.
@@ -63,62 +51,49 @@ fn is_behind(region: &[u32], count: usize, key: u32) -> bool
     requires { (2 * count ≤ length region.now) × (count ≤ 512) }
     ensures { result ≡ behind region.now count key }
 {
-    if count == 0 {
-        return true;
-    }
-    region[2 * (count - 1)] < key
+    count == 0 || region[2 * (count - 1)] < key
 }
 
 // The list with a row more, its place searched for: "The same pair and kind again is dropped; another kind for the pair .. is a clash"; "Counting a repeated bond
 // against the 512" is wrong, so that 14 is told last.
-fn join_among(
+fn join_among<L: KeyedList>(
     region: &mut [u32],
     count: usize,
-    most: usize,
     key: u32,
     payload: u32,
-    drops: bool,
-) -> RowAfter
-    requires { (length region.old ≡ 2 * most) × (count ≤ most) × (most ≤ 512) }
-    ensures { (length region.new ≡ length region.old) × KeptWithin most result × JoinShows most key payload drops count region.old region.new result
+) -> Result<usize, Refusal>
+    requires { (length region.old ≡ 2 * L.MOST) × (count ≤ L.MOST) }
+    ensures { (length region.new ≡ length region.old) × KeptWithin L.MOST result × JoinShows L.list key payload count region.old region.new result
         × StopLeaves region.old region.new result }
 {
-    let more = count + 1;
     let place = place_of(region, count, key);
     if stands_at(region, count, place, key) {
-        if !drops {
-            return RowAfter::Stop(13);
+        if L::DROPS && region[2 * place + 1] == payload {
+            return Ok(count);
         }
-        if region[2 * place + 1] == payload {
-            return RowAfter::Kept(count);
-        }
-        return RowAfter::Stop(13);
+        return Err(Refusal::Clash);
     }
-    if count == most {
-        return RowAfter::Stop(14);
+    if count == L::MOST {
+        return Err(Refusal::Full);
     }
     put_row(region, place, count, key, payload);
-    RowAfter::Kept(more)
+    Ok(count + 1)
 }
 
 // The list with a row more, whichever way it comes.
-pub fn join(
+pub fn join<L: KeyedList>(
     region: &mut [u32],
     count: usize,
-    most: usize,
     key: u32,
     payload: u32,
-    drops: bool,
-) -> RowAfter
-    requires { (length region.old ≡ 2 * most) × (count ≤ most) × (most ≤ 512) }
-    ensures { (length region.new ≡ length region.old) × KeptWithin most result × JoinShows most key payload drops count region.old region.new result
+) -> Result<usize, Refusal>
+    requires { (length region.old ≡ 2 * L.MOST) × (count ≤ L.MOST) }
+    ensures { (length region.new ≡ length region.old) × KeptWithin L.MOST result × JoinShows L.list key payload count region.old region.new result
         × StopLeaves region.old region.new result }
 {
-    if is_behind(region, count, key) {
-        if count < most {
-            put_row(region, count, count, key, payload);
-            return RowAfter::Kept(count + 1);
-        }
+    if count < L::MOST && is_behind(region, count, key) {
+        put_row(region, count, count, key, payload);
+        return Ok(count + 1);
     }
-    join_among(region, count, most, key, payload, drops)
+    join_among::<L>(region, count, key, payload)
 }

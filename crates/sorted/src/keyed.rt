@@ -1,116 +1,118 @@
 // Lines of BONDLIST, STEREOCENTER and STEREOPAIR: document 01, "Rows". "A row is answered as its values or a refusal with its reason, and the caller of a row goes
-// on only with the values in hand": each reader takes the row's answer apart and hands a refusal on with the line's place. A letter's value is always in its list's
-// range, so that none of these rows is refused 10. What no reading lends, another length or a count over its limit, is answered 0, and nothing is touched.
+// on only with the values in hand": a refusal is handed on with the line's place. What no reading lends, another length or a count over its limit, is answered
+// Unlent, and nothing is touched.
 ghost use Rattle.std.specs.Prelude.{◌≡◌, true, false, [], ◌∷◌, ◌*◌, ◌≤◌, ◌<◌, length};
 ghost use Rattle.lists.specs.Lists.{is_nil};
 ghost use Rattle.format.specs.Bytes.{within, fields};
 ghost use Rattle.format.specs.Labels.{Bonds, Centres, Pairs};
-ghost use Rattle.sorted.specs.Shown.{LineWithin, LineUntouched};
-ghost use Rattle.sorted.specs.Keyed.{region_fits, in_order, KeptWithin, StopLeaves, RowShows, LineShows};
+ghost use Rattle.sorted.specs.Shown.{KeptWithin, StopLeaves, LineUntouched};
+ghost use Rattle.sorted.specs.Keyed.{region_fits, in_order, atoms_in, key_answer, RowShows, StepShows, LineShows};
 
-use crate::after::{LineAfter, RowAfter, on_line};
 use crate::join::join;
+use crate::kinds::{BondList, CentreList, KeyedList, KeyedRow, PairList};
 use crate::scratch::Scratch;
 use format::Table;
-use rows::bond::BondRow;
-use rows::centre::CentreRow;
-use rows::pair::PairRow;
+use format::refusal::{Refusal, Refused};
 
 // Whether the line has no field: "lines then blank are skipped".
 pub fn is_bare(line: &[u8]) -> bool
     ensures { result ≡ is_nil (fields line.now) }
 {
-    let first = fields::next_field(line, 0);
-    first.from == first.to
+    fields::next_field(line, 0).is_empty()
 }
 
 // Whether the atom is one of the atoms listed.
-fn is_listed(atom: u32, atoms: usize) -> bool
+pub fn is_listed(atom: u32, atoms: usize) -> bool
     ensures { result ≡ within 1 atoms atom }
 {
-    if atom < 1 {
-        return false;
-    }
-    atom as usize <= atoms
+    0 < atom && atom as usize <= atoms
 }
 
-// A row of one atom joins its list, or its refusal: 11 where the atom is not listed.
-fn one_atom(
-    atoms: usize,
-    count: usize,
-    region: &mut [u32],
-    most: usize,
-    atom: u32,
-    payload: u32,
-) -> RowAfter
-    requires { (length region.old ≡ 2 * most) × (count ≤ most) × (most ≤ 512) × (atoms ≤ 256) }
-    ensures { (length region.new ≡ length region.old) × KeptWithin most result × RowShows most (atom ∷ []) payload false atoms count region.old region.new result }
+// The key of a row's atoms, the lower one first, or its refusal: 11 where an atom is not listed, 13 for "an atom with itself".
+fn key_of(row: KeyedRow, atoms: usize) -> Result<u32, Refusal>
+    requires { atoms ≤ 256 }
+    ensures { result ≡ key_answer atoms (atoms_in row) }
 {
-    if !is_listed(atom, atoms) {
-        return RowAfter::Stop(11);
+    if !is_listed(row.first, atoms) {
+        return Err(Refusal::AtomNumber);
     }
-    join(region, count, most, Scratch::KEY * atom, payload, false)
+    let Some(second) = row.second else {
+        return Ok(Scratch::KEY * row.first);
+    };
+    if !is_listed(second, atoms) {
+        return Err(Refusal::AtomNumber);
+    }
+    if row.first == second {
+        return Err(Refusal::Clash);
+    }
+    Ok(Scratch::KEY * row.first.min(second) + row.first.max(second))
 }
 
-// A row of two atoms joins its list with the lower atom first, or its refusal: 11 where an atom is not listed, 13 for "an atom with itself".
-fn two_atoms(
+// A row joins its list, or its refusal.
+fn row_joined<L: KeyedList>(
+    row: KeyedRow,
     atoms: usize,
     count: usize,
     region: &mut [u32],
-    most: usize,
-    first: u32,
-    second: u32,
-    payload: u32,
-    drops: bool,
-) -> RowAfter
-    requires { (length region.old ≡ 2 * most) × (count ≤ most) × (most ≤ 512) × (atoms ≤ 256) }
-    ensures { (length region.new ≡ length region.old) × KeptWithin most result × RowShows most (first ∷ second ∷ []) payload drops atoms count region.old region.new result
+) -> Result<usize, Refusal>
+    requires { (length region.old ≡ 2 * L.MOST) × (count ≤ L.MOST) × (atoms ≤ 256) }
+    ensures { (length region.new ≡ length region.old) × KeptWithin L.MOST result × RowShows L.list (atoms_in row) row.payload atoms count region.old region.new result
         × StopLeaves region.old region.new result }
 {
-    if !is_listed(first, atoms) {
-        return RowAfter::Stop(11);
+    let key = key_of(row, atoms)?;
+    join::<L>(region, count, key, row.payload)
+}
+
+// A line without a field leaves its list as it is, a row joins it.
+fn line_joined<L: KeyedList>(
+    line: &[u8],
+    atoms: usize,
+    count: usize,
+    region: &mut [u32],
+) -> Result<usize, Refusal>
+    requires { (length region.old ≡ 2 * L.MOST) × (count ≤ L.MOST) × (atoms ≤ 256) }
+    ensures { (length region.new ≡ length region.old) × KeptWithin L.MOST result × StepShows L.list atoms count line.now region.old region.new result }
+{
+    if is_bare(line) {
+        return Ok(count);
     }
-    if !is_listed(second, atoms) {
-        return RowAfter::Stop(11);
+    let row = L::row(line)?;
+    row_joined::<L>(row, atoms, count, region)
+}
+
+// What a line leaves of its list, `count` rows there and `atoms` atoms listed.
+fn keyed_line<L: KeyedList>(
+    line: &[u8],
+    place: usize,
+    atoms: usize,
+    count: usize,
+    region: &mut [u32],
+) -> Result<usize, Refused>
+    ensures { (length region.new ≡ length region.old) × (length region.old ≡ 2 * L.MOST → count ≤ L.MOST → atoms ≤ 256 → KeptWithin L.MOST result × LineShows L.list atoms count line.now place region.old region.new result)
+        × ((length region.old ≡ 2 * L.MOST → count ≤ L.MOST → atoms ≤ 256 → ⊥) → LineUntouched place region.old region.new result) }
+{
+    if !region_fits(region.len(), 2 * L::MOST, count, L::MOST, atoms) {
+        return Err(Refusal::Unlent.at(place));
     }
-    if first == second {
-        return RowAfter::Stop(13);
-    }
-    if first < second {
-        let key = Scratch::KEY * first + second;
-        return join(region, count, most, key, payload, drops);
-    }
-    let key = Scratch::KEY * second + first;
-    join(region, count, most, key, payload, drops)
+    line_joined::<L>(line, atoms, count, region).map_err(|refusal| refusal.at(place))
 }
 
 // Whether the region is one that a reading lends: of its list's size, with no more rows and atoms than there may be.
 pub fn region_fits(length: usize, size: usize, count: usize, most: usize, atoms: usize) -> bool
     ensures { result ≡ region_fits length size count most atoms }
 {
-    if length != size {
-        return false;
-    }
-    if most < count {
-        return false;
-    }
-    atoms <= Table::ATOMS
+    length == size && count <= most && atoms <= Table::ATOMS
 }
 
 // Whether both atoms are listed, the lower one first, as programs write them.
 fn is_ordered(first: u32, second: u32, atoms: usize) -> bool
     ensures { result ≡ in_order atoms first second }
 {
-    if first < 1 {
-        return false;
-    }
-    if second <= first {
-        return false;
-    }
-    second as usize <= atoms
+    is_listed(first, atoms) && is_listed(second, atoms) && first < second
 }
 
-// What a bond whose values are in hand leaves of its list, `count` bonds there and `atoms` atoms listed; a refusal leaves the region as it is.
+// What a bond whose values are in hand leaves of its list, `count` bonds there and `atoms` atoms listed; a refusal leaves the region as it is. Its one caller is the
+// run of quick rows, so that the compiler lays it into that loop.
 pub fn bond_joined(
     first: u32,
     second: u32,
@@ -118,31 +120,27 @@ pub fn bond_joined(
     atoms: usize,
     count: usize,
     region: &mut [u32],
-) -> RowAfter
+) -> Result<usize, Refusal>
     ensures { (length region.new ≡ length region.old) × StopLeaves region.old region.new result × (length region.old ≡ 1024 → count ≤ 512 → atoms ≤ 256 → kind < 6 →
-        KeptWithin 512 result × RowShows 512 (first ∷ second ∷ []) (256 * kind) true atoms count region.old region.new result) }
+        KeptWithin 512 result × RowShows Bonds (first ∷ second ∷ []) (256 * kind) atoms count region.old region.new result) }
 {
     if !region_fits(region.len(), Scratch::BONDS, count, Table::BONDS, atoms) {
-        return RowAfter::Stop(0);
+        return Err(Refusal::Unlent);
     }
     if 5 < kind {
-        return RowAfter::Stop(0);
+        return Err(Refusal::Unlent);
     }
     let payload = Scratch::PAYLOAD * kind;
     if is_ordered(first, second, atoms) {
         let key = Scratch::KEY * first + second;
-        return join(region, count, Table::BONDS, key, payload, true);
+        return join::<BondList>(region, count, key, payload);
     }
-    two_atoms(
-        atoms,
-        count,
-        region,
-        Table::BONDS,
+    let row = KeyedRow {
         first,
-        second,
+        second: Some(second),
         payload,
-        true,
-    )
+    };
+    row_joined::<BondList>(row, atoms, count, region)
 }
 
 // What a line of BONDLIST leaves of its list, `count` bonds there and `atoms` atoms listed: "two atoms and S, D, T, Q or A". The line is without its comment;
@@ -153,36 +151,11 @@ pub fn bond_line(
     atoms: usize,
     count: usize,
     region: &mut [u32],
-) -> LineAfter
-    ensures { (length region.new ≡ length region.old) × (length region.old ≡ 1024 → count ≤ 512 → atoms ≤ 256 → LineWithin 512 result × LineShows Bonds atoms count line.now place region.old region.new result)
+) -> Result<usize, Refused>
+    ensures { (length region.new ≡ length region.old) × (length region.old ≡ 1024 → count ≤ 512 → atoms ≤ 256 → KeptWithin 512 result × LineShows Bonds atoms count line.now place region.old region.new result)
         × ((length region.old ≡ 1024 → count ≤ 512 → atoms ≤ 256 → ⊥) → LineUntouched place region.old region.new result) }
 {
-    if !region_fits(region.len(), Scratch::BONDS, count, Table::BONDS, atoms) {
-        return LineAfter::Refused(0, place);
-    }
-    if is_bare(line) {
-        return LineAfter::Kept(count);
-    }
-    let row = rows::bond::bond_row(line);
-    let BondRow::Values(first, second, kind) = row else {
-        let BondRow::Refused(reason) = row else {
-            return LineAfter::Refused(0, place);
-        };
-        return LineAfter::Refused(reason, place);
-    };
-    // not by `bond_joined`, whose one caller is the run of quick rows: so the compiler lays it into that loop
-    let payload = Scratch::PAYLOAD * kind;
-    let after = two_atoms(
-        atoms,
-        count,
-        region,
-        Table::BONDS,
-        first,
-        second,
-        payload,
-        true,
-    );
-    on_line(after, place)
+    keyed_line::<BondList>(line, place, atoms, count, region)
 }
 
 // What a line of STEREOCENTER leaves of its list: "atom, P or M, optional group `0`, A to Z or a to z".
@@ -192,26 +165,11 @@ pub fn centre_line(
     atoms: usize,
     count: usize,
     region: &mut [u32],
-) -> LineAfter
-    ensures { (length region.new ≡ length region.old) × (length region.old ≡ 256 → count ≤ 128 → atoms ≤ 256 → LineWithin 128 result × LineShows Centres atoms count line.now place region.old region.new result)
+) -> Result<usize, Refused>
+    ensures { (length region.new ≡ length region.old) × (length region.old ≡ 256 → count ≤ 128 → atoms ≤ 256 → KeptWithin 128 result × LineShows Centres atoms count line.now place region.old region.new result)
         × ((length region.old ≡ 256 → count ≤ 128 → atoms ≤ 256 → ⊥) → LineUntouched place region.old region.new result) }
 {
-    if !region_fits(region.len(), Scratch::CENTRES, count, Table::CENTRES, atoms) {
-        return LineAfter::Refused(0, place);
-    }
-    if is_bare(line) {
-        return LineAfter::Kept(count);
-    }
-    let row = rows::centre::centre_row(line);
-    let CentreRow::Values(atom, side, group) = row else {
-        let CentreRow::Refused(reason) = row else {
-            return LineAfter::Refused(0, place);
-        };
-        return LineAfter::Refused(reason, place);
-    };
-    let payload = Scratch::PAYLOAD * side + group;
-    let after = one_atom(atoms, count, region, Table::CENTRES, atom, payload);
-    on_line(after, place)
+    keyed_line::<CentreList>(line, place, atoms, count, region)
 }
 
 // What a line of STEREOPAIR leaves of its list: "two atoms, P, M or 0, optional group".
@@ -221,33 +179,9 @@ pub fn pair_line(
     atoms: usize,
     count: usize,
     region: &mut [u32],
-) -> LineAfter
-    ensures { (length region.new ≡ length region.old) × (length region.old ≡ 256 → count ≤ 128 → atoms ≤ 256 → LineWithin 128 result × LineShows Pairs atoms count line.now place region.old region.new result)
+) -> Result<usize, Refused>
+    ensures { (length region.new ≡ length region.old) × (length region.old ≡ 256 → count ≤ 128 → atoms ≤ 256 → KeptWithin 128 result × LineShows Pairs atoms count line.now place region.old region.new result)
         × ((length region.old ≡ 256 → count ≤ 128 → atoms ≤ 256 → ⊥) → LineUntouched place region.old region.new result) }
 {
-    if !region_fits(region.len(), Scratch::PAIRS, count, Table::PAIRS, atoms) {
-        return LineAfter::Refused(0, place);
-    }
-    if is_bare(line) {
-        return LineAfter::Kept(count);
-    }
-    let row = rows::pair::pair_row(line);
-    let PairRow::Values(first, second, side, group) = row else {
-        let PairRow::Refused(reason) = row else {
-            return LineAfter::Refused(0, place);
-        };
-        return LineAfter::Refused(reason, place);
-    };
-    let payload = Scratch::PAYLOAD * side + group;
-    let after = two_atoms(
-        atoms,
-        count,
-        region,
-        Table::PAIRS,
-        first,
-        second,
-        payload,
-        false,
-    );
-    on_line(after, place)
+    keyed_line::<PairList>(line, place, atoms, count, region)
 }

@@ -1,6 +1,7 @@
 // The reader's scratch: where each list's rows stand in it, and how many numbers they take. Each follows from a limit of the table's type.
 use format::Table;
 
+// One lent buffer of fixed length with regions by place: no heap, and `judge`, `list_turn`, `rows_run` and `publish` answer for a buffer of any length (docs/PROMISES.md).
 // Natural numbers that a reading lends; the type holds nothing of its own.
 #[derive(Clone, Copy)]
 pub struct Scratch;

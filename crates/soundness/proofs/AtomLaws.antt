@@ -18,9 +18,8 @@ use Rattle.format.specs.Rows.{Row}
 use Rattle.format.specs.Structure.{ranging, atom_ok}
 use Rattle.format.specs.Table.{cell, row_with, atom_cells, atom_at}
 use Rattle.format.proofs.ByteLaws.{within_true, within_is}
-use Rattle.soundness.specs.Numbered.{column}
+use Rattle.soundness.specs.Numbered.{column, up_to}
 use Rattle.soundness.specs.Sounding.{number_at, atom_fine}
-use Rattle.soundness.proofs.InTurnLaws.{up_to}
 use Rattle.soundness.proofs.SplitLaws.{Ranged, ranged_of, ranging_of, ranging_pos}
 
 abbrev pub records : (n : ℕ) → List ℤ → List (List ℤ)

@@ -23,7 +23,7 @@ use Rattle.format.specs.Rows.{Row, row}
 use Rattle.format.specs.Structure.{overlap, meets, atoms_before, row_before}
 use Rattle.format.specs.Table.{spread_at}
 use Rattle.format.proofs.OrderLaws.{row_strict}
-use Rattle.soundness.specs.Numbered.{column, members, rows_by, in_turn}
+use Rattle.soundness.specs.Numbered.{column, members, rows_by, in_turn, up_to}
 use Rattle.soundness.proofs.NumberedLaws.{members_in_lem, members_out, members_nil, rows_nil, rows_cons, later, members_has, rows_length, rows_are}
 
 -- CLAUSES
@@ -124,9 +124,6 @@ next_row k n cs v vs =
     ap (ascends row_before) (rows_cons (suc k) n (suc k ∷ cs) v vs)
     ∙ rw (members_in_lem (suc k) n (suc k) cs refl, rows_skip (suc (suc k)) n (suc k) cs vs (omega arith))
     (ascends_cons row_before (row (n ∷ members (suc k) (suc n) cs) v 0) (rows_by (suc (suc k)) (suc n) cs vs) ∙ rw (row_leads (suc (suc k)) n (members (suc k) (suc n) cs) cs v vs))
-
-abbrev pub up_to : (rows : ℕ) → List ℕ → Bool
-up_to rows cs = all (λ c. leb c rows) cs
 
 turn_ascends : (k n : ℕ) (cs : List ℕ) (vs : List ℤ) → up_to (k + length vs) cs ≡ true → in_turn k (k + length vs) cs ≡ ascends row_before (rows_by (suc k) n cs vs)
 turn_ascends k n [] vs h = turn_last k n vs

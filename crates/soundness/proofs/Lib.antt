@@ -14,4 +14,5 @@ pub mod LaidLaws
 pub mod RegionsLaws
 pub mod TestLaws
 pub mod ZeroLaws
+pub mod FirstLaws
 pub mod RegionTests

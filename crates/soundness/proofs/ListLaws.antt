@@ -20,13 +20,13 @@ use Rattle.format.specs.Labels.{ListOf, Charges, Radicals}
 use Rattle.format.specs.Rows.{Row}
 use Rattle.format.specs.Structure.{arity, meets, overlap, ranged, row_before, row_ok}
 use Rattle.format.specs.Table.{row_cells, spread_at}
-use Rattle.soundness.specs.Numbered.{column, in_turn}
+use Rattle.soundness.specs.Numbered.{column, in_turn, up_to}
 use Rattle.soundness.specs.Sounding.{unused, value_fine}
 use Rattle.soundness.proofs.SplitLaws.{region_split, region_joined}
 use Rattle.soundness.proofs.KeyLaws.{Keyed}
 use Rattle.soundness.proofs.KeyedLaws.{Says, cells_long, keyed_there, keyed_back}
 use Rattle.soundness.proofs.NumberedLaws as numbered
-use Rattle.soundness.proofs.InTurnLaws.{up_to, charges_meet, radicals_meet, in_turn_lem}
+use Rattle.soundness.proofs.InTurnLaws.{charges_meet, radicals_meet, in_turn_lem}
 
 -- A LIST'S ROWS, n atoms and m rows at most; the test of the definitions, and its parts
 abbrev pub rows_test : ListOf → (n m : ℕ) → List Row → Bool

@@ -10,19 +10,17 @@ use lib.ListN.{length, get_or, take, drop, drop_of_length-le}
 use lib.Seq.{drop-cons, get_or-take, get_or-drop}
 use lib.IntN.{ℤ, pos, nat_abs}
 use lib.Dec.{eqb, leb}
-use borrow.Author.Tests.{eq-eqb, ne_eqb}
 use Rattle.lists.specs.Lists.{all, pairs, rows_from}
 use Rattle.lists.specs.Order.{ascends}
-use Rattle.lists.proofs.Bools.{or_left}
 use Rattle.lists.proofs.PartLaws.{all_map}
 use Rattle.lists.proofs.RegionLaws.{rows_length, rows_at}
 use Rattle.format.specs.Labels.{ListOf}
 use Rattle.format.specs.Rows.{Row}
 use Rattle.format.specs.Structure.{meets, row_before}
 use Rattle.format.specs.Table.{cell, count_at, atom_records, spread_at}
-use Rattle.soundness.specs.Numbered.{column, column_of, in_turn}
+use Rattle.soundness.specs.Numbered.{column, column_of, in_turn, up_to}
 use Rattle.soundness.proofs.NumberedLaws.{column_length, column_at}
-use Rattle.soundness.proofs.InTurnLaws.{turn_nil, turn_beyond, turn_on, up_to, overlaps, in_turn_lem}
+use Rattle.soundness.proofs.InTurnLaws.{turn_nil, turn_beyond, turn_on, overlaps, in_turn_lem}
 
 -- THE CELLS
 column_is : (p n : ℕ) (t : List ℤ) → column_of p n t ≡ column p (rows_from 5 (take 5) n (drop 16 t))
@@ -67,14 +65,8 @@ module _ (met rows p n : ℕ) (t : List ℤ) (i : ℕ) where
       ap (in_turn met rows) (first h) ∙ turn_on met rows (get_or (column_of p n t) i 0) (rest (suc i)) (omega arith)
       ∙ rw (c, ← f, add-one)
 
-  pub turn_at_end : n ≤ i → in_turn met rows (rest i) ≡ (eqb rows met || eqb rows (suc met))
-  turn_at_end h = ap (in_turn met rows) (drop_of_length-le (column_of p n t) {i = i} (omega (arith, column_size p n t))) ∙ turn_nil met rows
-
-  pub turn_whole : n ≤ i → rows ≡ met → in_turn met rows (rest i) ≡ true
-  turn_whole h e = turn_at_end h ∙ or_left (eqb rows met) (eqb rows (suc met)) (eq-eqb rows met e)
-
-  pub turn_void : n ≤ i → (rows ≡ met → ⊥) → in_turn met rows (rest i) ≡ eqb rows (met + 1)
-  turn_void h e = turn_at_end h ∙ rw (ne_eqb rows met e, add-one)
+  pub turn_at_end : n ≤ i → in_turn met rows (rest i) ≡ (eqb rows met || eqb rows (met + 1))
+  turn_at_end h = ap (in_turn met rows) (drop_of_length-le (column_of p n t) {i = i} (omega (arith, column_size p n t))) ∙ turn_nil met rows ∙ rw add-one
 
 -- THE TABLE'S OWN ROWS: what the loop answers is what the definitions ask of them, where no atom's number is beyond the rows
 records_are : (p n : ℕ) (t : List ℤ) → n ≡ count_at t 0 256 → column_of p n t ≡ column p (atom_records t)

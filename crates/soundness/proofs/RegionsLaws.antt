@@ -22,10 +22,9 @@ use Rattle.format.specs.Rows.{Row}
 use Rattle.format.specs.Structure.{Atom, Structure, rows_of, most, atom_ok, well_formed}
 use Rattle.format.specs.Table.{cell, base, width, row_with, atom_cells, row_cells, rows_part, span_cells, encode, marked_at, bond_at, spread_at, decode, spans_of, same_number, sound_numbers}
 use Rattle.format.proofs.TableLaws.{number_equal, number_self}
-use Rattle.soundness.specs.Numbered.{column, column_of}
+use Rattle.soundness.specs.Numbered.{column, column_of, up_to}
 use Rattle.soundness.specs.Sounding.{unused, header_fine, counts_fine, places_fine, handed_fine, atom_fine, atoms_fine, record_key, records_fine, keyed_fine, bonds_fine, centres_fine, pairs_fine, values_fine, charges_fine, radicals_fine, lists_fine, regions_fine}
 use Rattle.soundness.proofs.NumberedLaws.{column_at, column_length, row_back}
-use Rattle.soundness.proofs.InTurnLaws.{up_to}
 use Rattle.soundness.proofs.SplitLaws.{region_split, region_joined}
 use Rattle.soundness.proofs.KeyLaws.{bonds_keyed, centres_keyed, pairs_keyed}
 use Rattle.soundness.proofs.KeyedLaws.{cells_long}

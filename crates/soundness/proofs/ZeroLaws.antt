@@ -2,7 +2,7 @@
 -- loop takes the next number of each. Serves document 01, "The structure table" ("unused ones are 0"). Assumes nothing.
 use Prim.Native.Nat.{ℕ, suc, ◌+◌, ◌-◌, ◌≤◌, ◌<◌, ◌^◌}
 use mathlib.Core.Path.{◌≡◌, refl, sym, ap, ap₂, ◌∙◌}
-use mathlib.Core.Bool.{Bool, true, false, not, ◌&&◌, and-true, and_assoc}
+use mathlib.Core.Bool.{Bool, true, false, ◌&&◌, and-true, and_assoc}
 use mathlib.Core.List.{List}
 use native.Mathlib.Omega.{arith}
 use lib.ListN.{length, take, drop, length-drop, take-append-drop}
@@ -11,7 +11,6 @@ use lib.IntN.{ℤ, pos}
 use lib.Bits.{bit_or}
 use lib.Dec.{eqb}
 use lib.Signed.{mag}
-use borrow.Author.Tests.{not-true, not-false}
 use mir.Syntax.{w32}
 use mir.Facts.{Fits-or, Fits-of_z}
 use mir.Val.{Fits, of_z, to_z}
@@ -101,10 +100,9 @@ module _ (s : List ℤ) where
         ∙ ap (λ (t : Bool). A && t) (between q (q + q) (omega arith) ∙ ap (λ (t : Bool). B && t) (between (q + q) (q + q + q) (omega arith) ∙ ap (λ (t : Bool). C && t) (between (q + q + q) (q + q + q + q) (omega arith))))
         ∙ grouped A B C D (unused (drop (q + q + q + q) s)) ∙ ap (λ (t : Bool). t && unused (drop (q + q + q + q) s)) (sym e)
 
-    pub parts_out : not r ≡ true → false ≡ unused s
-    parts_out h = sym (parts_are ∙ and_left_false r _ (not-true r h))
+    pub parts_rest : (x : Bool) → x ≡ unused (take (length s - (q + q + q + q)) (drop (q + q + q + q) s)) → unused s ≡ (r && x)
+    parts_rest x f =
+        parts_are ∙ ap (λ (t : Bool). r && t) (ap unused (sym (take_all (length s - (q + q + q + q)) (drop (q + q + q + q) s) (omega (arith, length-drop (q + q + q + q) s)))) ∙ sym f)
 
-    pub parts_rest : not r ≡ false → (x : Bool) → x ≡ unused (take (length s - (q + q + q + q)) (drop (q + q + q + q) s)) → x ≡ unused s
-    parts_rest h x f =
-        f ∙ ap unused (take_all (length s - (q + q + q + q)) (drop (q + q + q + q) s) (omega (arith, length-drop (q + q + q + q) s)))
-        ∙ sym (parts_are ∙ ap (λ (t : Bool). t && unused (drop (q + q + q + q) s)) (not-false r h))
+    pub parts_out : r ≡ false → unused s ≡ false
+    parts_out h = parts_are ∙ and_left_false r _ h

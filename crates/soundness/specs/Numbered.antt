@@ -1,7 +1,7 @@
 -- Charge and radical rows by the row numbers that the atoms' records hold: document 01, "The structure table" ("charge row, radical row (from 1; 0 none)"; "Charge
 -- and radical rows ascend by lowest atom, the row without atoms last."). Assumes nothing.
 use Rattle.std.specs.Prelude.{ℕ, suc, max, Bool, true, false, ◌&&◌, ◌||◌, List, [], ◌∷◌, map, take, drop, ℤ, eqb, leb}
-use Rattle.lists.specs.Lists.{rows_from}
+use Rattle.lists.specs.Lists.{all, rows_from}
 use Rattle.format.specs.Rows.{Row, row}
 use Rattle.format.specs.Table.{cell}
 
@@ -27,3 +27,7 @@ rows_by j n cs (v ∷ vs) = row (members j n cs) v 0 ∷ rows_by (suc j) n cs vs
 unfoldable pub in_turn : (met rows : ℕ) → List ℕ → Bool
 in_turn met rows [] = eqb rows met || eqb rows (suc met)
 in_turn met rows (c ∷ cs) = leb c (suc met) && in_turn (max met c) rows cs
+
+-- no number is beyond the rows
+abbrev pub up_to : (rows : ℕ) → List ℕ → Bool
+up_to rows cs = all (λ c. leb c rows) cs

@@ -4,13 +4,11 @@ use Rattle.std.specs.Prelude.{ℕ, suc, ◌+◌, ◌-◌, ◌*◌, Bool, true, f
 use Rattle.lists.specs.Lists.{all, rows_from}
 use Rattle.lists.specs.Order.{ascends}
 use Rattle.format.specs.Bytes.{within}
-use Rattle.format.specs.Labels.{ListOf, Bonds, Centres, Pairs}
-use Rattle.format.specs.Structure.{ranging, most}
-use Rattle.format.specs.Table.{base, width, cell}
+use Rattle.format.specs.Structure.{ranging}
+use Rattle.format.specs.Table.{cell}
 use Rattle.cells.specs.Signs.{negative}
 use Rattle.soundness.specs.Numbered.{column_of, in_turn}
-use Rattle.soundness.specs.declared.keyed.Ordered.{Ordered}
-use Rattle.soundness.specs.declared.keyed.Ordered.TheVariants.{Bond, Centre, Pair}
+use Rattle.soundness.specs.declared.shapes.Shape.{Shape}
 
 abbrev pub number_at : List ℤ → ℕ → ℤ
 number_at t p = get_or t p (pos 0)
@@ -49,15 +47,7 @@ unfoldable pub atoms_fine : (k : ℕ) → List ℤ → Bool
 atoms_fine k t =
     all (λ b. b) (rows_from 5 (atom_fine k (cell t 2) (cell t 3)) (cell t 0) (drop 16 t)) && unused (take (1280 - 5 * cell t 0) (drop (16 + 5 * cell t 0) t))
 
--- LISTS THAT STAND BY THEIR ATOMS: which is meant, and where its region ends
-abbrev pub list_of : Ordered → ListOf
-list_of Bond = Bonds
-list_of Centre = Centres
-list_of Pair = Pairs
-
-abbrev pub region_end : ListOf → ℕ
-region_end l = base l + width l * most l
-
+-- LISTS THAT STAND BY THEIR ATOMS
 -- A record of one or two atoms, a value and, where the list has groups, a group.
 -- "group `0`, A to Z or a to z": 0, or its letter's byte
 unfoldable pub group_fine : (grouped : Bool) → ℤ → Bool
@@ -93,6 +83,10 @@ unfoldable pub keyed_fine : (members low high : ℕ) → (grouped : Bool) → (f
 keyed_fine members low high grouped first w size n rows t =
     records_fine members low high grouped w n rows (drop first t) && unused (take (size - w * rows) (drop (first + w * rows) t))
 
+-- the same of a list of some shape
+abbrev pub list_fine : Shape → List ℤ → Bool
+list_fine l t = keyed_fine l.members l.low l.high l.grouped l.first l.width (l.end - l.first) (cell t 0) (cell t l.count) t
+
 -- "512 bonds: lower atom, higher atom, kind 1 to 5"; "128 centres: atom, 1 P or 2 M, group byte"; "128 pairs: lower, higher, 0, 1 P or 2 M, group byte"
 unfoldable pub bonds_fine : List ℤ → Bool
 bonds_fine t = keyed_fine 2 1 5 false 1296 3 1536 (cell t 0) (cell t 1) t
@@ -117,6 +111,10 @@ charges_fine t = values_fine true 2832 (cell t 2) t && in_turn 0 (cell t 2) (col
 
 unfoldable pub radicals_fine : List ℤ → Bool
 radicals_fine t = values_fine false 2896 (cell t 3) t && in_turn 0 (cell t 3) (column_of 4 (cell t 0) t)
+
+-- the same of a list of values: where its rows are counted, where the first value stands, and the place of a row's number in an atom's record
+abbrev pub spread_fine : (signed : Bool) → (count first column : ℕ) → List ℤ → Bool
+spread_fine signed count first column t = values_fine signed first (cell t count) t && in_turn 0 (cell t count) (column_of column (cell t 0) t)
 
 -- ALL REGIONS
 unfoldable pub lists_fine : List ℤ → Bool

@@ -1,59 +1,54 @@
 // The atoms' records: document 01, "The structure table" ("element, mass (0 none), implied hydrogens, charge row, radical row (from 1; 0 none)").
-ghost use Rattle.std.specs.Prelude.{◌≡◌, ◌≤◌, length, drop};
+ghost use Rattle.std.specs.Prelude.{◌≡◌, ◌≤◌, drop};
 ghost use Rattle.lists.specs.Lists.{all, rows_from};
-ghost use Rattle.format.specs.Table.{cell as cell_of};
 ghost use Rattle.soundness.specs.Sounding.{atom_fine, atoms_fine};
 
-use crate::parts::{all_zero, unused_from};
+use crate::header::Headed;
+use crate::parts::all_zero;
 use cells::{cell, ranges};
 use format::Table;
 
-// Whether each number of the record there is in its range.
-fn atom_fine(table: &[i32], at: usize, charges: u32, radicals: u32) -> bool
-    requires { at ≤ 3856 }
-    ensures { result ≡ atom_fine 103 charges radicals (drop at table.now) }
+// How many elements there are; the highest mass, and the most hydrogens.
+const ELEMENTS: u32 = 103;
+
+const HIGHEST_MASS: u32 = 300;
+
+const MOST_HYDROGENS: u32 = 15;
+
+// Whether each number of the record that stands first is in its range.
+#[tactic(auto, unfolding(crate::specs::Sounding::atom_fine))]
+fn atom_fine(numbers: &[i32], charges: u32, radicals: u32) -> bool
+    ensures { result ≡ atom_fine 103 charges radicals numbers.now }
 {
-    if !ranges(table, at, 1, 103) {
-        return false;
-    }
-    if !ranges(table, at + 1, 0, 300) {
-        return false;
-    }
-    if !ranges(table, at + 2, 0, 15) {
-        return false;
-    }
-    if !ranges(table, at + 3, 0, charges) {
-        return false;
-    }
-    ranges(table, at + 4, 0, radicals)
+    ranges(numbers, 0, 1, ELEMENTS)
+        && ranges(numbers, 1, 0, HIGHEST_MASS)
+        && ranges(numbers, 2, 0, MOST_HYDROGENS)
+        && ranges(numbers, 3, 0, charges)
+        && ranges(numbers, 4, 0, radicals)
 }
 
 // Whether each atom's record is fine.
-fn each_atom_fine(table: &[i32], atoms: usize, charges: u32, radicals: u32) -> bool
+#[tactic(auto, using(format::proofs::PlaceLaws::atom_small))]
+fn each_atom_fine(table: &[i32; Table::SIZE], atoms: usize, charges: u32, radicals: u32) -> bool
     requires { atoms ≤ 256 }
     ensures { result ≡ all (λ b. b) (rows_from 5 (atom_fine 103 charges radicals) atoms (drop 16 table.now)) }
 {
-    let mut i = 0;
-    while i < atoms {
-        if !atom_fine(table, Table::atom(i), charges, radicals) {
+    for i in 0..atoms {
+        if !atom_fine(&table[Table::atom(i)..], charges, radicals) {
             return false;
         }
-        i += 1;
     }
     true
 }
 
 // Whether the atoms' region is fine: the records, and 0 behind the last.
-pub fn atoms_fine(table: &[i32]) -> bool
-    requires { (3856 ≤ length table.now) × (cell_of table.now 0 ≤ 256) }
-    ensures { result ≡ atoms_fine 103 table.now }
+pub fn atoms_fine(headed: Headed<'_>) -> bool
+    ensures { result ≡ atoms_fine 103 headed.entry.table.now }
 {
+    let table = headed.table;
     let atoms = cell(table, Table::ATOM_COUNT) as usize;
     let charges = cell(table, Table::CHARGE_COUNT);
     let radicals = cell(table, Table::RADICAL_COUNT);
-    if !each_atom_fine(table, atoms, charges, radicals) {
-        return false;
-    }
-    let from = unused_from(Table::atom(atoms), Table::FIRST_BOND);
-    all_zero(&table[from..Table::FIRST_BOND])
+    let from = Table::FIRST_BOND.min(Table::atom(atoms));
+    each_atom_fine(table, atoms, charges, radicals) && all_zero(&table[from..Table::FIRST_BOND])
 }

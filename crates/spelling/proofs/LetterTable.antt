@@ -17,11 +17,7 @@ use Rattle.format.proofs.Tables.{elements_numbered}
 use Rattle.format.proofs.Computing.{computing}
 use Rattle.spelling.specs.Words.{words, word_of}
 
--- THE WORDS, by the number of the arm
-pub word_is : (row x : ℕ) → row ≡ x → get_or words x 0 ≡ word_of row
-unfolding word_of
-word_is row x e = sym (ap (λ (k : ℕ). get_or words k 0) e)
-
+-- THE WORDS
 words_number : length words ≡ 26
 unfolding words
 words_number = refl
@@ -52,9 +48,9 @@ inside e h =
 
 outside : (e : ℕ) → 104 ≤ e → Both e (low e)
 outside e h =
-    let none : symbol_of e ≡ [] = get_or-eq_default symbols [] {n = e - 1} (rw elements_numbered.0 (omega arith)) in
+    let None : symbol_of e ≡ [] = get_or-eq_default symbols [] {n = e - 1} (rw elements_numbered.0 (omega arith)) in
     let bare : low e ≡ 0 = ap (λ (w : ℕ). w / 2 ^ (16 * (e % 4))) (sym (word_past (e / 4) (omega arith))) ∙ zero-div (2 ^ (16 * (e % 4))) in
-    (ap (λ (w : ℕ). w % 256) bare ∙ sym (ap (λ l. get_or l 0 0) none), ap (λ (w : ℕ). w / 256 % 256) bare ∙ sym (ap (λ l. get_or l 1 0) none))
+    (ap (λ (w : ℕ). w % 256) bare ∙ sym (ap (λ l. get_or l 0 0) None), ap (λ (w : ℕ). w / 256 % 256) bare ∙ sym (ap (λ l. get_or l 1 0) None))
 
 pub letters_in : (e w : ℕ) → w ≡ word_of (e / 4) → Both e (w / 2 ^ (16 * (e % 4)))
 letters_in e w q = rw q (go (ltb e 104) refl)

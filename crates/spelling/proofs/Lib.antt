@@ -1,4 +1,3 @@
 -- The laws of this crate, file by file. Assumes nothing.
 pub mod LetterTable
 pub mod SpellLaws
-pub mod TableRule

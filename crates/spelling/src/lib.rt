@@ -4,12 +4,13 @@
 ghost use Rattle.std.specs.Prelude.{◌≡◌, not, eqb, get_or};
 ghost use Rattle.format.specs.Structure.{isotope_of};
 ghost use Rattle.format.specs.Writing.{symbol_of, spelt, print_mass, print_sym};
-ghost use Rattle.printing.specs.Printing.{Laid};
+ghost use Rattle.printing.specs.Printing.{Printed};
 ghost use Rattle.spelling.specs.Spelling.{plain_sym, letters_of};
 ghost use Rattle.spelling.specs.Words.{word_of};
 
-use printing::{put, put_number};
+use printing::Sheet;
 
+// 0 for none, as the definitions' symbols are padded.
 // The letters of a symbol; the second is 0 where it has one letter.
 #[derive(Clone, Copy)]
 struct Letters {
@@ -19,6 +20,7 @@ struct Letters {
 
 // "Symbols are those of elements 1 (H) to 103 (Lr)": four elements a word from 0 on (which counts as 1), two bytes an element, its first letter in the lower.
 // A table would be laid out anew at each use.
+#[tactic(auto, unfolding(crate::specs::Words::words, crate::specs::Words::word_of))]
 fn letters_word(row: u32) -> u64
     ensures { result ≡ word_of row }
 {
@@ -53,70 +55,53 @@ fn letters_word(row: u32) -> u64
     }
 }
 
-// How many values a letter's byte has.
-const BYTES: u64 = 256;
-
 // Both letters of an element; 0 where there is none.
 fn letters_of(element: u32) -> Letters
     ensures { (result.first ≡ get_or (symbol_of element) 0 0) × (result.second ≡ get_or (symbol_of element) 1 0) }
 {
-    let shift = 16 * (element as u64 % 4);
-    let word = letters_word(element / 4) >> shift;
-    let first = (word % BYTES) as u8;
-    let second = (word / BYTES % BYTES) as u8;
-    Letters { first, second }
+    let shift = 16 * (element % 4);
+    let bytes = (letters_word(element / 4) >> shift).to_le_bytes();
+    Letters {
+        first: bytes[0],
+        second: bytes[1],
+    }
 }
 
 // One letter or two.
-fn put_letters(buffer: &mut [u8], at: usize, first: u8, second: u8) -> usize
-    ensures { Laid buffer.old at (letters_of first second) buffer.new result }
+fn put_letters(sheet: &mut Sheet, letters: Letters)
+    ensures { Printed sheet.old (letters_of letters.first letters.second) sheet.new }
 {
-    let behind = put(buffer, at, first);
-    if second == 0 {
-        return behind;
+    sheet.byte(letters.first);
+    if letters.second != 0 {
+        sheet.byte(letters.second);
     }
-    put(buffer, behind, second)
 }
 
 // A mass behind `^`; none where it is 0.
-fn put_mass(buffer: &mut [u8], at: usize, mass: u32) -> usize
-    ensures { Laid buffer.old at (print_mass (not (eqb mass 0)) mass) buffer.new result }
+fn put_mass(sheet: &mut Sheet, mass: u32)
+    ensures { Printed sheet.old (print_mass (not (eqb mass 0)) mass) sheet.new }
 {
-    if mass == 0 {
-        return at;
+    if mass != 0 {
+        sheet.byte(b'^');
+        sheet.number(mass);
     }
-    let behind = put(buffer, at, 94);
-    put_number(buffer, behind, mass)
 }
 
 // A symbol by its element's letters.
-fn put_plain(buffer: &mut [u8], at: usize, element: u32, mass: u32) -> usize
-    ensures { Laid buffer.old at (print_sym (plain_sym element mass)) buffer.new result }
+fn put_plain(sheet: &mut Sheet, element: u32, mass: u32)
+    ensures { Printed sheet.old (print_sym (plain_sym element mass)) sheet.new }
 {
-    let letters = letters_of(element);
-    let behind = put_mass(buffer, at, mass);
-    put_letters(buffer, behind, letters.first, letters.second)
+    put_mass(sheet, mass);
+    put_letters(sheet, letters_of(element));
 }
 
-// Hydrogen: "D and T for hydrogen 2 and 3".
-fn put_hydrogen(buffer: &mut [u8], at: usize, mass: u32) -> usize
-    ensures { Laid buffer.old at (print_sym (spelt (isotope_of 1 mass))) buffer.new result }
+// The symbol of an element and its mass: "D and T for hydrogen 2 and 3".
+pub fn put_symbol(sheet: &mut Sheet, element: u32, mass: u32)
+    ensures { Printed sheet.old (print_sym (spelt (isotope_of element mass))) sheet.new }
 {
-    if mass == 2 {
-        return put(buffer, at, 68);
+    match (element, mass) {
+        (1, 2) => sheet.byte(b'D'),
+        (1, 3) => sheet.byte(b'T'),
+        _ => put_plain(sheet, element, mass),
     }
-    if mass == 3 {
-        return put(buffer, at, 84);
-    }
-    put_plain(buffer, at, 1, mass)
-}
-
-// The symbol of an element and its mass.
-pub fn put_symbol(buffer: &mut [u8], at: usize, element: u32, mass: u32) -> usize
-    ensures { Laid buffer.old at (print_sym (spelt (isotope_of element mass))) buffer.new result }
-{
-    if element == 1 {
-        return put_hydrogen(buffer, at, mass);
-    }
-    put_plain(buffer, at, element, mass)
 }

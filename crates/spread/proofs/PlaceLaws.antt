@@ -3,7 +3,8 @@
 use Prim.Native.Nat.{ℕ, zero, suc, ◌+◌, ◌-◌, ◌≤◌, ◌<◌}
 use mathlib.Core.Path.{◌≡◌, refl, sym, ap, ◌∙◌}
 use mathlib.Core.Bool.{Bool, true, false, ◌&&◌}
-use mathlib.Core.Option.{Option, none, some}
+use Rattle.std.specs.declared.option.Option.{Option}
+use Rattle.std.specs.declared.option.Option.TheVariants.{None, Some}
 use mathlib.Core.List.{List, [], ◌∷◌, ◌++◌, map}
 use native.Mathlib.Omega.{arith}
 use lib.ListN.{length, get_or, length-append}
@@ -28,8 +29,8 @@ void r = is_nil r.atoms
 
 -- what tells a row: an atom of it, or that it has none
 abbrev pub tells : Option ℕ → Row → Bool
-tells none r = void r
-tells (some n) r = has n r
+tells None r = void r
+tells (Some n) r = has n r
 
 module _ (p : Row → Bool) where
   -- the number of the row that the test tells: counted from the last row, from the first; 0 where there is none

@@ -3,7 +3,8 @@
 use Prim.Native.Nat.{ℕ, zero, suc, ◌+◌, ◌-◌, ◌≤◌, ◌<◌}
 use mathlib.Core.Path.{◌≡◌, refl, sym, ap, ◌∙◌}
 use mathlib.Core.Bool.{Bool, true, false, ◌||◌, and-true, or-false}
-use mathlib.Core.Option.{Option, none, some}
+use Rattle.std.specs.declared.option.Option.{Option}
+use Rattle.std.specs.declared.option.Option.TheVariants.{None, Some}
 use mathlib.Core.List.{List, [], ◌∷◌, ◌++◌, append_assoc, reverse_aux}
 use native.Mathlib.Omega.{arith}
 use lib.ListN.{length, get_or, set, length-set, length-append}
@@ -105,8 +106,8 @@ members_set k n i ps v rs h =
 
 -- A ROW'S CLAIM: nothing where it clashes
 abbrev pub unless : Bool → List ℕ → Option (List ℕ)
-unless true t = none
-unless false t = some t
+unless true t = None
+unless false t = Some t
 
 module _ (v : ℤ) (rs : List Row) (z : List ℕ) where
   -- the members' cells where some members have come before
@@ -264,7 +265,7 @@ module _ (rs : List Row) (few : length rs ≤ 64) where
       go : (t : Bool) → any void rs ≡ t → claimed (suc (length rs)) [] (spread_region rs) ≡ unless (any void rs) (halfway (row [] v 0) rs)
       go true e = void_taken (suc (length rs)) (spread_region rs) (λ q. void_some rs e (sym last_cell ∙ q)) ∙ sym (ap (λ (b : Bool). unless b (halfway (row [] v 0) rs)) e)
       go false e =
-          void_free (suc (length rs)) (spread_region rs) (last_cell ∙ void_none rs e) ∙ ap (λ (t : List ℕ). some t) (last_set v)
+          void_free (suc (length rs)) (spread_region rs) (last_cell ∙ void_none rs e) ∙ ap (λ (t : List ℕ). Some t) (last_set v)
           ∙ sym (ap (λ (b : Bool). unless b (halfway (row [] v 0) rs)) e)
 
   -- and of one with atoms, whatever order they are in

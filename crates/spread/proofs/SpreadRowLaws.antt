@@ -3,14 +3,14 @@
 use Prim.Native.Nat.{ℕ, suc, ◌+◌, ◌≤◌, ◌<◌}
 use mathlib.Core.Path.{◌≡◌, refl, sym, ap, ◌∙◌, subst}
 use mathlib.Core.Bool.{Bool, true, false, not, ◌||◌}
-use mathlib.Core.Option.{some}
+use Rattle.std.specs.declared.option.Option.TheVariants.{Some}
 use mathlib.Core.List.{List, [], ◌∷◌, ◌++◌, append-nil, reverse_aux}
 use native.Mathlib.Omega.{arith}
 use lib.ListN.{length, set}
 use lib.IntN.{ℤ}
 use lib.Seq.{set-append_left}
 use lib.Dec.{eqb, ltb, leb}
-use borrow.Author.Tests.{le-leb, lt-leb, leb-false}
+use borrow.Author.Tests.{le-leb, lt-leb}
 use Rattle.lists.specs.Lists.{is_nil, all, any, pairs, filled}
 use Rattle.lists.specs.Order.{sort}
 use Rattle.lists.proofs.Bools.{torn}
@@ -27,21 +27,12 @@ use Rattle.format.proofs.ByteLaws.{within_is, within_true}
 use Rattle.sorted.specs.Steps.{After, kept, refused, if◌breaks◌else◌, joined_as, join_after, row_after}
 use Rattle.sorted.specs.Regions.{members_from, coded, arrived, void_of, spread_region}
 use Rattle.sorted.specs.Shown.{ShowsAfter}
-use Rattle.sorted.specs.declared.after.RowAfter.TheVariants.{Kept, Stop}
+use Rattle.std.specs.Prelude.{Ok, Err}
+use Rattle.format.specs.declared.refusal.Refusal.TheVariants.{AtomNumber, Clash, Full}
 use Rattle.spread.specs.Members.{list_of, claimed, ShowsClaim}
 use Rattle.spread.proofs.PlaceLaws.{arrived_length, arrived_more}
 use Rattle.spread.proofs.MemberLaws.{claimed_some}
 use Rattle.spread.proofs.SpreadLaws.{clash_spread, most_spread, members_length, region_is, unless, halfway, claimed_void, claimed_members}
-
--- HOW MANY ROWS: an answer that keeps rows keeps no more than the list holds
-pub stop_few : (n c : ℕ) → Stop n ≡ Kept c → c ≤ 64
-stop_few n c e = absurd (let z : ◌≡◌ {A = ℕ} 0 1 = cc in omega arith)
-
-pub kept_few : (k c : ℕ) → k ≤ 64 → Kept k ≡ Kept c → c ≤ 64
-kept_few k c h e = let q : k ≡ c = cc in omega arith
-
-pub room : (count : ℕ) → leb 64 count ≡ false → count + 1 ≤ 64
-room count e = omega (arith, leb-false 64 count e)
 
 -- THE CLAIM of a row as it stands on its line
 unsorted : (ns : List ℕ) (p : ℕ → Bool) → any p (reverse_aux ns []) ≡ any p (sort ltb ns)
@@ -112,7 +103,7 @@ module _ (s : Bool) (v : ℤ) (atoms : ℕ) (ns : List ℕ) (rs : List Row) (ran
   twice = pairs eqb ns || any (meets (list_of s) added) rs
 
   abbrev answer : After Row
-  answer = row_after (list_of s) atoms rs (some (row ns v 0))
+  answer = row_after (list_of s) atoms rs (Some (row ns v 0))
 
   after_unlisted : all (within 1 atoms) ns ≡ false → answer ≡ refused 11
   unfolding row_after
@@ -127,8 +118,8 @@ module _ (s : Bool) (v : ℤ) (atoms : ℕ) (ns : List ℕ) (rs : List Row) (ran
       ∙ ap (λ (m : ℕ). if pairs eqb ns breaks 13 else if any (meets (list_of s) added) rs breaks 13 else joined_as (any (meets (list_of s) added) rs) (leb m (length rs)) rs added) (most_spread s)
       ∙ row_joined (pairs eqb ns) (any (meets (list_of s) added) rs) (leb 64 (length rs)) rs added
 
-  pub shows_11 : (u : List ℕ) → all (within 1 atoms) ns ≡ false → ShowsAfter spread_region u (Stop 11) answer
-  shows_11 u h = subst (ShowsAfter spread_region u (Stop 11)) (sym (after_unlisted h)) refl
+  pub shows_11 : (u : List ℕ) → all (within 1 atoms) ns ≡ false → ShowsAfter spread_region u (Err AtomNumber) answer
+  shows_11 u h = subst (ShowsAfter spread_region u (Err AtomNumber)) (sym (after_unlisted h)) refl
 
   module _ (count : ℕ) (t t' : List ℕ) (len : length rs ≡ count) (few : count ≤ 64) (is : t ≡ spread_region rs) (low : atoms ≤ 256) (listed : all (within 1 atoms) ns ≡ true) where
     claim_is : claimed (count + 1) ns t ≡ unless twice (halfway added rs)
@@ -139,11 +130,11 @@ module _ (s : Bool) (v : ℤ) (atoms : ℕ) (ns : List ℕ) (rs : List Row) (ran
     told : (b r : Bool) → r ≡ b → ShowsClaim r t' (claimed (count + 1) ns t) → ShowsClaim b t' (unless twice (halfway added rs))
     told b r e h = subst (ShowsClaim b t') claim_is (subst (λ (a : Bool). ShowsClaim a t' (claimed (count + 1) ns t)) e h)
 
-    pub shows_13 : (u : List ℕ) (r : Bool) → r ≡ false → ShowsClaim r t' (claimed (count + 1) ns t) → ShowsAfter spread_region u (Stop 13) answer
+    pub shows_13 : (u : List ℕ) (r : Bool) → r ≡ false → ShowsClaim r t' (claimed (count + 1) ns t) → ShowsAfter spread_region u (Err Clash) answer
     shows_13 u r f h = go twice refl (told false r f h)
       where
-        go : (b : Bool) → twice ≡ b → ShowsClaim false t' (unless b (halfway added rs)) → ShowsAfter spread_region u (Stop 13) answer
-        go true e g = subst (ShowsAfter spread_region u (Stop 13)) (sym (after_listed listed ∙ ap (λ (b : Bool). if b breaks 13 else if leb 64 (length rs) breaks 14 else kept (added ∷ rs)) e)) refl
+        go : (b : Bool) → twice ≡ b → ShowsClaim false t' (unless b (halfway added rs)) → ShowsAfter spread_region u (Err Clash) answer
+        go true e g = subst (ShowsAfter spread_region u (Err Clash)) (sym (after_listed listed ∙ ap (λ (b : Bool). if b breaks 13 else if leb 64 (length rs) breaks 14 else kept (added ∷ rs)) e)) refl
         go false e g = torn false g.0 refl
 
     -- a row that may join
@@ -154,16 +145,16 @@ module _ (s : Bool) (v : ℤ) (atoms : ℕ) (ns : List ℕ) (rs : List Row) (ran
         go true e g = torn true refl g
         go false e g = (g.1, after_listed listed ∙ ap (λ (b : Bool). if b breaks 13 else if leb 64 (length rs) breaks 14 else kept (added ∷ rs)) e)
 
-    pub shows_14 : (u : List ℕ) (r : Bool) → r ≡ true → ShowsClaim r t' (claimed (count + 1) ns t) → 64 ≤ count → ShowsAfter spread_region u (Stop 14) answer
+    pub shows_14 : (u : List ℕ) (r : Bool) → r ≡ true → ShowsClaim r t' (claimed (count + 1) ns t) → 64 ≤ count → ShowsAfter spread_region u (Err Full) answer
     shows_14 u r f h full =
         let q : answer ≡ refused 14 = (free r f h).1 ∙ ap (λ (b : Bool). if b breaks 14 else kept (added ∷ rs)) (le-leb 64 (length rs) (omega (arith, len))) in
-        subst (ShowsAfter spread_region u (Stop 14)) (sym q) refl
+        subst (ShowsAfter spread_region u (Err Full)) (sym q) refl
 
-    pub shows_kept : (code : ℕ) → coded v ≡ code → (r : Bool) → r ≡ true → ShowsClaim r t' (claimed (count + 1) ns t) → count < 64 → ShowsAfter spread_region (set t' (256 + count) code) (Kept (count + 1)) answer
+    pub shows_kept : (code : ℕ) → coded v ≡ code → (r : Bool) → r ≡ true → ShowsClaim r t' (claimed (count + 1) ns t) → count < 64 → ShowsAfter spread_region (set t' (256 + count) code) (Ok (count + 1)) answer
     shows_kept code e r f h room =
         let q : answer ≡ kept (added ∷ rs) = (free r f h).1 ∙ ap (λ (b : Bool). if b breaks 14 else kept (added ∷ rs)) (lt-leb 64 (length rs) (omega (arith, len))) in
         let n : count + 1 ≡ suc (length rs) = omega (arith, len) in
         let z : set t' (256 + count) code ≡ spread_region (added ∷ rs)
         = ap (λ (l : List ℕ). set l (256 + count) code) (free r f h).0 ∙ ap (λ (i : ℕ). set (halfway added rs) (256 + i) code) (sym len)
         ∙ ap (set (halfway added rs) (256 + length rs)) (sym e) ∙ value_set added rs (omega (arith, len)) in
-        subst (ShowsAfter spread_region (set t' (256 + count) code) (Kept (count + 1))) (sym q) (ap Kept n, z)
+        subst (ShowsAfter spread_region (set t' (256 + count) code) (Ok (count + 1))) (sym q) (ap Ok n, z)

@@ -1,11 +1,11 @@
 // Charge and radical rows: document 01, "Rows". "CHARGE: signed value, -99 to 99 and not 0, then no or more atoms: one charge spread over them. RADICAL: unsigned 1
-// to 15, then the same." One code for both; `signed` tells CHARGE. A row has any number of fields, so that its line is passed over for each test and no field is kept.
-// "A row is answered as its values or a refusal with its reason": the line's reader takes the answer apart and hands a refusal on with the line's place.
-// What no reading lends, another length or a count over its limit, is answered 0, and nothing is touched.
+// to 15, then the same." One code for both; `signed` tells CHARGE, a flag, since public `spread_line` takes it. A row has any number of fields, so that its line is
+// passed over for each test and no field is kept. A refusal is handed on with the line's place. What no reading lends, another length or a count over its limit, is
+// answered Unlent, and nothing is touched.
 #![tactic(auto)]
 
-ghost use Rattle.std.specs.Prelude.{◌≡◌, Bool, true, false, List, ℕ, ◌≤◌, ◌<◌, ℤ, length, drop};
-ghost use Rattle.std.proofs.Math.Option.{some};
+ghost use Rattle.std.specs.Prelude.{◌≡◌, Bool, true, false, List, ℕ, ◌≤◌, ◌<◌, ℤ, nat_abs, length, drop, IfSome};
+ghost use Rattle.std.specs.declared.option.Option.TheVariants.{Some};
 ghost use Rattle.lists.specs.Lists.{all};
 ghost use Rattle.format.specs.Bytes.{within, fields};
 ghost use Rattle.format.specs.Rows.{Row, row, row_shape};
@@ -13,184 +13,115 @@ ghost use Rattle.format.specs.Structure.{ranged};
 ghost use Rattle.fields.specs.NextFields.{NextField};
 ghost use Rattle.sorted.specs.Steps.{row_after, row_step};
 ghost use Rattle.sorted.specs.Regions.{Fits, coded, spread_region};
-ghost use Rattle.sorted.specs.Shown.{ShowsAfter, ShowsLine, LineWithin, LineUntouched};
-ghost use Rattle.sorted.specs.declared.after.RowAfter.TheVariants.{Kept};
-ghost use Rattle.spread.specs.Members.{list_of, ShowsValue, ValueOf, spread_answer, is_number, members_in, MemberAt, claims, claimed, ShowsClaim};
+ghost use Rattle.sorted.specs.Shown.{ShowsAfter, ShowsLine, KeptWithin, LineUntouched};
+ghost use Rattle.spread.specs.Members.{list_of, value_in, spread_answer, passes, members_in, ShowsMember, claims, claimed, ShowsClaim};
 
 use fields::Field;
 use format::Table;
-use numbers::{Numeral, SignedNumeral};
-use sorted::after::{LineAfter, RowAfter, on_line};
-use sorted::keyed::region_fits;
+use format::refusal::{Refusal, Refused};
+use sorted::keyed::{is_listed, region_fits};
 use sorted::scratch::Scratch;
 
-// The first field: its value as value + 100, 0 where it is beyond its range; or no number.
+// A row: its value as value + 100 and where its members start.
 #[derive(Clone, Copy)]
-pub enum SpreadValue {
-    Coded(u32),
-    Wrong,
+pub struct SpreadRow {
+    pub code: u32,
+    pub members: usize,
 }
 
-// A row: its value as value + 100 and where its members start, or the refusal's number: 9 no shape, 10 a value beyond its range.
+// A member: its number and where its field ends.
 #[derive(Clone, Copy)]
-pub enum SpreadRow {
-    Values(u32, usize),
-    Refused(u32),
+pub struct Member {
+    pub number: u32,
+    pub to: usize,
 }
 
-// The next field: none, no number, or a number and where it ends.
-#[derive(Clone, Copy)]
-pub enum Member {
-    None,
-    Wrong,
-    Number(u32, usize),
-}
-
-// The value of a charge row: "signed value, -99 to 99 and not 0".
-fn charge_of(word: &[u8]) -> SpreadValue
-    ensures { ShowsValue true word.now result }
-{
-    match numbers::signed(word) {
-        SignedNumeral::Wrong => SpreadValue::Wrong,
-        SignedNumeral::Plus(n) => {
-            if n < 1 {
-                return SpreadValue::Coded(0);
-            }
-            if 99 < n {
-                return SpreadValue::Coded(0);
-            }
-            SpreadValue::Coded(100 + n)
-        }
-        SignedNumeral::Minus(n) => {
-            if n < 1 {
-                return SpreadValue::Coded(0);
-            }
-            if 99 < n {
-                return SpreadValue::Coded(0);
-            }
-            SpreadValue::Coded(100 - n)
-        }
-    }
-}
-
-// The value of a radical row: "unsigned 1 to 15".
-fn radical_of(word: &[u8]) -> SpreadValue
-    ensures { ShowsValue false word.now result }
-{
-    let Numeral::Value(n) = numbers::number(word) else {
-        return SpreadValue::Wrong;
-    };
-    if n < 1 {
-        return SpreadValue::Coded(0);
-    }
-    if 15 < n {
-        return SpreadValue::Coded(0);
-    }
-    SpreadValue::Coded(100 + n)
-}
-
-// The value that the row's first field says.
-fn value_of(word: &[u8], signed: bool) -> SpreadValue
-    ensures { ValueOf signed word.now result }
+// The value that the row's first field says: "signed value", or "unsigned".
+fn value_of(word: &[u8], signed: bool) -> Option<i32>
+    ensures says { result ≡ value_in signed word.now }
+    ensures small { IfSome result (λ z. nat_abs z < 1000000) }
 {
     if signed {
-        return charge_of(word);
+        numbers::signed(word)
+    } else {
+        numbers::natural(word)
     }
-    radical_of(word)
 }
 
-// The member that stands next from `at` on.
-fn member_at(line: &[u8], at: usize) -> Member
+// Whether the value is in its list's range: "-99 to 99 and not 0", or "1 to 15".
+fn is_ranged(value: i32, signed: bool) -> bool
+    ensures { result ≡ ranged (list_of signed) value }
+{
+    if signed {
+        return matches!(value, -99..=-1 | 1..=99);
+    }
+    matches!(value, 1..=15)
+}
+
+// A value in its range, as value + 100.
+fn coded(value: i32) -> u32
+    requires { nat_abs value ≤ 99 }
+    ensures { result ≡ coded value }
+{
+    (100 + value) as u32
+}
+
+// The member that stands next from `at` on; none where the line ends.
+fn member_at(line: &[u8], at: usize) -> Result<Option<Member>, Refusal>
     requires { at ≤ length line.now }
-    ensures { MemberAt line.now at result }
+    ensures { ShowsMember line.now at result }
 {
     let field = fields::next_field(line, at);
-    let from = field.from;
-    let to = field.to;
-    if from == to {
-        return Member::None;
+    if field.is_empty() {
+        return Ok(None);
     }
-    let Numeral::Value(n) = numbers::number(&line[from..to]) else {
-        return Member::Wrong;
-    };
-    Member::Number(n, to)
+    let number = numbers::number(&line[field.from..field.to]).ok_or(Refusal::Shape)?;
+    Ok(Some(Member {
+        number,
+        to: field.to,
+    }))
 }
 
-// Whether each field from `at` on is an unsigned number.
-fn all_numbers(line: &[u8], at: usize) -> bool
-    requires { at ≤ length line.now }
-    ensures { result ≡ all is_number (fields (drop at line.now)) }
+// Whether each field from `at` on is an unsigned number that passes the test.
+fn all_members<F: Fn(u32) -> bool>(line: &[u8], mut at: usize, test: F) -> bool
+    requires in_line { at ≤ length line.now }
+    requires can { F.IsAlwaysCallable test }
+    ensures { (p : ℕ → Bool) → ((n : ℕ) (b : Bool) → F.post test n b → b ≡ p n) → result ≡ all (passes p) (fields (drop at line.now)) }
 {
-    let mut i = at;
-    while i < line.len() {
-        match member_at(line, i) {
-            Member::None => {
-                return true;
-            }
-            Member::Wrong => {
-                return false;
-            }
-            Member::Number(_, to) => {
-                i = to;
+    loop {
+        match member_at(line, at) {
+            Ok(None) => return true,
+            Err(_) => return false,
+            Ok(Some(member)) => {
+                if !test(member.number) {
+                    return false;
+                }
+                at = member.to;
             }
         }
     }
-    true
 }
 
-// Whether each member from `at` on is one of the atoms listed.
-fn all_listed(line: &[u8], at: usize, atoms: usize) -> bool
-    requires { at ≤ length line.now }
-    ensures { result ≡ all (within 1 atoms) (members_in (fields (drop at line.now))) }
-{
-    let mut i = at;
-    while i < line.len() {
-        match member_at(line, i) {
-            Member::None => {
-                return true;
-            }
-            Member::Wrong => {
-                return false;
-            }
-            Member::Number(n, to) => {
-                if n < 1 {
-                    return false;
-                }
-                if atoms < n as usize {
-                    return false;
-                }
-                i = to;
-            }
-        }
-    }
-    true
-}
-
+// Apart from `all_members`, since a closure that writes would need laws of each write.
 // The members take the row's number, as long as none has a row: "In each list an atom stands once".
-fn claim_members(line: &[u8], at: usize, number: u32, region: &mut [u32]) -> bool
+fn claim_members(line: &[u8], mut at: usize, number: u32, region: &mut [u32]) -> bool
     requires { (length region.old ≡ 321) × (at ≤ length line.now) × (all (within 1 256) (members_in (fields (drop at line.now))) ≡ true) }
     ensures { (length region.new ≡ 321) × ShowsClaim result region.new (claims number (members_in (fields (drop at line.now))) region.old) }
 {
-    let mut i = at;
-    while i < line.len() {
-        match member_at(line, i) {
-            Member::None => {
-                return true;
-            }
-            Member::Wrong => {
-                return false;
-            }
-            Member::Number(n, to) => {
-                let place = n as usize - 1;
-                if 0 < region[place] {
+    loop {
+        match member_at(line, at) {
+            Ok(None) => return true,
+            Err(_) => return false,
+            Ok(Some(member)) => {
+                let place = member.number as usize - 1;
+                if region[place] != 0 {
                     return false;
                 }
                 region[place] = number;
-                i = to;
+                at = member.to;
             }
         }
     }
-    true
 }
 
 // The members, or the one row without atoms, take the row's number: "one row at most has no atoms; otherwise a clash".
@@ -199,15 +130,15 @@ fn claim(line: &[u8], at: usize, number: u32, region: &mut [u32]) -> bool
     ensures { (length region.new ≡ 321) × ShowsClaim result region.new (claimed number (members_in (fields (drop at line.now))) region.old) }
 {
     match member_at(line, at) {
-        Member::None => {
+        Ok(None) => {
             if region[Scratch::WITHOUT_ATOMS] != 0 {
                 return false;
             }
             region[Scratch::WITHOUT_ATOMS] = number;
             true
         }
-        Member::Wrong => false,
-        Member::Number(_, _) => claim_members(line, at, number, region),
+        Err(_) => false,
+        Ok(Some(_)) => claim_members(line, at, number, region),
     }
 }
 
@@ -219,42 +150,59 @@ fn add_row(
     atoms: usize,
     count: usize,
     region: &mut [u32],
-) -> RowAfter
+) -> Result<usize, Refusal>
     requires { (length region.old ≡ 321) × (at ≤ length line.now) × (count ≤ 64) × (atoms ≤ 256) }
-    ensures { (length region.new ≡ 321) × ((c : ℕ) → result ≡ Kept c → c ≤ 64) × ((s : Bool) (v : ℤ) (rs : List Row) → ranged (list_of s) v ≡ true → coded v ≡ code → length rs ≡ count → region.old ≡ spread_region rs → ShowsAfter spread_region region.new result (row_after (list_of s) atoms rs (some (row (members_in (fields (drop at line.now))) v 0)))) }
+    ensures { (length region.new ≡ 321) × KeptWithin 64 result × ((s : Bool) (v : ℤ) (rs : List Row) → ranged (list_of s) v ≡ true → coded v ≡ code → length rs ≡ count → region.old ≡ spread_region rs → ShowsAfter spread_region region.new result (row_after (list_of s) atoms rs (Some (row (members_in (fields (drop at line.now))) v 0)))) }
 {
-    if !all_listed(line, at, atoms) {
-        return RowAfter::Stop(11);
+    if !all_members(line, at, |n| is_listed(n, atoms)) {
+        return Err(Refusal::AtomNumber);
     }
-    let clash = !claim(line, at, count as u32 + 1, region);
-    let full = Table::CHARGES <= count;
-    if clash {
-        return RowAfter::Stop(13);
+    if !claim(line, at, count as u32 + 1, region) {
+        return Err(Refusal::Clash);
     }
-    if full {
-        return RowAfter::Stop(14);
+    if Table::CHARGES <= count {
+        return Err(Refusal::Full);
     }
     region[Table::ATOMS + count] = code;
-    RowAfter::Kept(count + 1)
+    Ok(count + 1)
 }
 
 // The row of a line whose first field is given: "signed value .., then no or more atoms", or "unsigned 1 to 15, then the same".
-fn spread_row(line: &[u8], first: Field, signed: bool) -> SpreadRow
+fn spread_row(line: &[u8], first: Field, signed: bool) -> Result<SpreadRow, Refusal>
     requires { NextField line.now 0 first × (first.from < first.to) }
     ensures { result ≡ spread_answer signed first.to (row_shape (list_of signed) (fields line.now)) }
 {
-    let from = first.from;
-    let to = first.to;
-    let SpreadValue::Coded(code) = value_of(&line[from..to], signed) else {
-        return SpreadRow::Refused(9);
-    };
-    if !all_numbers(line, to) {
-        return SpreadRow::Refused(9);
+    let value = value_of(&line[first.from..first.to], signed).ok_or(Refusal::Shape)?;
+    if !all_members(line, first.to, |_| true) {
+        return Err(Refusal::Shape);
     }
-    if code == 0 {
-        return SpreadRow::Refused(10);
+    if !is_ranged(value, signed) {
+        return Err(Refusal::Range);
     }
-    SpreadRow::Values(code, to)
+    Ok(SpreadRow {
+        code: coded(value),
+        members: first.to,
+    })
+}
+
+// A line without a field leaves its list as it is, a row joins it.
+fn line_joined(
+    line: &[u8],
+    signed: bool,
+    atoms: usize,
+    count: usize,
+    region: &mut [u32],
+) -> Result<usize, Refusal>
+    requires { (length region.old ≡ 321) × (count ≤ 64) × (atoms ≤ 256) }
+    ensures { (length region.new ≡ 321) × KeptWithin 64 result × ((rs : List Row) → length rs ≡ count → Fits (list_of signed) atoms rs → region.old ≡ spread_region rs →
+        ShowsAfter spread_region region.new result (row_step (list_of signed) atoms rs (fields line.now))) }
+{
+    let first = fields::next_field(line, 0);
+    if first.is_empty() {
+        return Ok(count);
+    }
+    let row = spread_row(line, first, signed)?;
+    add_row(line, row.members, row.code, atoms, count, region)
 }
 
 // What a line of CHARGE (signed) or RADICAL leaves of its list, `count` rows there and `atoms` atoms listed. The line is without its comment; `place` is where it
@@ -266,25 +214,13 @@ pub fn spread_line(
     atoms: usize,
     count: usize,
     region: &mut [u32],
-) -> LineAfter
-    ensures { (length region.new ≡ length region.old) × (length region.old ≡ 321 → count ≤ 64 → atoms ≤ 256 → LineWithin 64 result × ((rs : List Row) → length rs ≡ count → Fits (list_of signed) atoms rs → region.old ≡ spread_region rs →
+) -> Result<usize, Refused>
+    ensures { (length region.new ≡ length region.old) × (length region.old ≡ 321 → count ≤ 64 → atoms ≤ 256 → KeptWithin 64 result × ((rs : List Row) → length rs ≡ count → Fits (list_of signed) atoms rs → region.old ≡ spread_region rs →
         ShowsLine spread_region place region.new result (row_step (list_of signed) atoms rs (fields line.now))))
         × ((length region.old ≡ 321 → count ≤ 64 → atoms ≤ 256 → ⊥) → LineUntouched place region.old region.new result) }
 {
     if !region_fits(region.len(), Scratch::SPREAD, count, Table::CHARGES, atoms) {
-        return LineAfter::Refused(0, place);
+        return Err(Refusal::Unlent.at(place));
     }
-    let first = fields::next_field(line, 0);
-    if first.from == first.to {
-        return LineAfter::Kept(count);
-    }
-    let row = spread_row(line, first, signed);
-    let SpreadRow::Values(code, members) = row else {
-        let SpreadRow::Refused(reason) = row else {
-            return LineAfter::Refused(0, place);
-        };
-        return LineAfter::Refused(reason, place);
-    };
-    let after = add_row(line, members, code, atoms, count, region);
-    on_line(after, place)
+    line_joined(line, signed, atoms, count, region).map_err(|refusal| refusal.at(place))
 }

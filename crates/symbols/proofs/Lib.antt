@@ -1,3 +1,3 @@
 -- The laws of this crate's functions, file by file. Assumes nothing.
-pub mod SpellingLaws
 pub mod LetterLaws
+pub mod SpellingLaws

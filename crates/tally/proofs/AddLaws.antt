@@ -1,69 +1,114 @@
--- One entry more in the two regions, as src/entries.rt puts it: raised where its key stands at the place, else put in there. Assumes nothing.
-use Prim.Native.Nat.{ℕ, ◌+◌, ◌≤◌, ◌<◌}
+-- One entry more in a tally, as src/entries.rt puts it: raised where its key stands at the place, else put in there. Assumes nothing.
+use Prim.Native.Nat.{ℕ, suc, ◌+◌, ◌-◌, ◌≤◌, ◌<◌}
 use mathlib.Core.Path.{◌≡◌, sym, ap, ap₂, ◌∙◌, subst}
 use mathlib.Core.Bool.{Bool, true, false, ◌&&◌}
-use mathlib.Core.List.{List, ◌∷◌}
+use mathlib.Core.List.{List, ◌∷◌, ◌++◌, map-append}
 use native.Mathlib.Omega.{arith}
-use lib.ListN.{length, get_or, take, set}
-use lib.Seq.{get_or-take, length-take-le, take-set-lt}
+use lib.ListN.{length, get_or, set, take, drop, length-append, length-drop}
+use lib.Seq.{get_or-take, length-take-le, take-take, take_at, drop_at, drop-drop, take-set-lt, set_split}
+use borrow.Rule.Slice.PartMut.{put_mid}
+use Rattle.std.proofs.Math.Seq.{map-set_same}
+use Rattle.std.proofs.lemmas.List.{drop-take, length-take, map-set}
+use Rattle.std.proofs.lemmas.Slice.{take-put_mid}
 use lib.Dec.{eqb, ltb}
 use borrow.Author.Tests.{eqb-true, ltb-true, lt-ltb, eq-eqb}
 use Rattle.lists.proofs.Bools.{torn, and_parts, and_both}
+use Rattle.lists.proofs.PartLaws.{map_take, map_drop}
+use Rattle.lists.proofs.IndexLaws.{map_length, map_at}
 use Rattle.lists.proofs.LexLaws.{Sides, less, equal, greater, sides}
-use Rattle.tally.specs.Gathering.{Tallied, Shows, KeysAscend, one_more, AddShows}
+use Rattle.tally.specs.declared.entries.Entry.{Entry as Tallied}
+use Rattle.tally.specs.Gathering.{keys_in, counts_in, tallied, TallyShows, KeysAscend, AddShows}
 use Rattle.tally.proofs.ShowLaws.{shows_up, shows_raised, shows_put}
 
--- keys that show entries ascend; what the first keys and counts are
-pub keys_up : (es : List Tallied) (k c : List ℕ) (count : ℕ) → count ≤ length k → Shows es (take count k) (take count c) → KeysAscend count k
-keys_up es k c count h s i j a b =
-    let l : length (take count k) ≡ count = length-take-le count k h in
-    omega (arith, shows_up es (take count k) (take count c) s i j a (omega arith), get_or-take count k i 0 (omega arith), get_or-take count k j 0 b)
+abbrev key_in : Tallied → ℕ
+key_in e = e.key
+
+abbrev count_in : Tallied → ℕ
+count_in e = e.count
+
+abbrev nothing : Tallied
+nothing = tallied 0 0
+
+-- keys that show entries ascend
+pub keys_up : (es t : List Tallied) → TallyShows es t → KeysAscend t
+keys_up es t s i j a b = shows_up es (keys_in t) (counts_in t) s i j a (omega (arith, b, map_length key_in t))
 
 -- whether the key stands at the place
-pub stands : (k : List ℕ) (count place key : ℕ) (b : Bool) → b ≡ (ltb place count && eqb (get_or k place 0) key) → b ≡ true → (place < count) × (get_or k place 0 ≡ key)
-stands k count place key b e h =
-    let q = and_parts (ltb place count) (eqb (get_or k place 0) key) (sym e ∙ h) in
-    (ltb-true place count q.0, eqb-true (get_or k place 0) key q.1)
+pub stands : (t : List Tallied) (place key : ℕ) (b : Bool) → b ≡ (ltb place (length t) && eqb (get_or (keys_in t) place 0) key) → b ≡ true → (place < length t) × (get_or (keys_in t) place 0 ≡ key)
+stands t place key b e h =
+    let q = and_parts (ltb place (length t)) (eqb (get_or (keys_in t) place 0) key) (sym e ∙ h) in
+    (ltb-true place (length t) q.0, eqb-true (get_or (keys_in t) place 0) key q.1)
 
-module _ (k c : List ℕ) (count place key more : ℕ) (lk : count ≤ length k) (b : Bool) (st : b ≡ (ltb place count && eqb (get_or k place 0) key)) where
-  -- raised
-  pub add_raised : b ≡ true → AddShows count place key more k c count k (set c place (get_or c place 0 + more))
-  add_raised h es e a m w s =
-      let p : place < count = (stands k count place key b st h).0 in
-      let q : get_or k place 0 ≡ key = (stands k count place key b st h).1 in
-      let u : get_or (take count k) place 0 ≡ e.key = get_or-take count k place 0 p ∙ q ∙ sym a in
-      let v : take count (set c place (get_or c place 0 + more)) ≡ set (take count c) place (get_or (take count c) place 0 + e.count) =
-      take-set-lt count c place (get_or c place 0 + more) p ∙ ap₂ (λ (m n : ℕ). set (take count c) place (m + n)) (sym (get_or-take count c place 0 p)) (sym m) in
-      subst (λ (l : List ℕ). Shows (e ∷ es) (take count k) l) (sym v) (shows_raised es (take count k) (take count c) s e place (omega (arith, length-take-le count k lk)) u)
+-- an entry put in: the entries from its place on are turned by one, so that the last stands there, and are overwritten from there
+pub inserted : {A : Type 0} (xs : List A) (place count : ℕ) (ys : List A) (x : A) → place ≤ count → count < length xs → length ys ≡ count + 1 - place
+    → ys ≡ drop (count - place) (take (count + 1 - place) (drop place xs)) ++ take (count - place) (take (count + 1 - place) (drop place xs))
+    → take (count + 1) (set (put_mid place (count + 1 - place) xs ys) place x) ≡ take place (take count xs) ++ (x ∷ drop place (take count xs))
+inserted xs place count ys x p c l e =
+    let sub : List _ = take (count + 1 - place) (drop place xs) in
+    let front : length (take place xs) ≡ place = length-take-le place xs (omega arith) in
+    let long : length sub ≡ count + 1 - place = length-take-le (count + 1 - place) (drop place xs) (omega (arith, length-drop place xs)) in
+    let one : length (drop (count - place) sub) ≡ 1 = omega (arith, length-drop (count - place) sub, long, p) in
+    let next : suc place ≡ place + 1 = omega arith in
+    let upto : count ≡ place + (count - place) = omega arith in
+    let behind : drop 1 ys ≡ drop place (take count xs) =
+    ap (drop 1) e ∙ drop_at (drop (count - place) sub) (take (count - place) sub) 1 one ∙ take-take (count - place) (count + 1 - place) (drop place xs) (omega arith)
+    ∙ sym (drop-take place (count - place) xs) ∙ ap (λ (n : ℕ). drop place (take n xs)) (sym upto) in
+    take-set-lt (count + 1) (put_mid place (count + 1 - place) xs ys) place x (omega arith)
+    ∙ ap (λ (zs : List _). set zs place x) (take-put_mid place (count + 1 - place) xs ys (count + 1) (omega (arith, l, p)) (omega arith))
+    ∙ set_split (take place xs ++ ys) place x (omega (arith, length-append (take place xs) ys, front, l, p))
+    ∙ ap₂ (λ (u v : List _). u ++ (x ∷ v)) (take_at (take place xs) ys place front ∙ sym (take-take place count xs p))
+    (ap (λ (n : ℕ). drop n (take place xs ++ ys)) next ∙ sym (drop-drop 1 place (take place xs ++ ys)) ∙ ap (drop 1) (drop_at (take place xs) ys place front) ∙ behind)
+
+module _ (t : List Tallied) (place key more : ℕ) (b : Bool) (st : b ≡ (ltb place (length t) && eqb (get_or (keys_in t) place 0) key)) where
+  -- raised: the entry at the place has its key still, and counts so many more
+  pub add_raised : b ≡ true → (e' : Tallied) → e'.key ≡ (get_or t place nothing).key → e'.count ≡ (get_or t place nothing).count + more → AddShows place key more t (set t place e')
+  add_raised h e' u v es e a m w s =
+      let p : place < length t = (stands t place key b st h).0 in
+      let q : get_or (keys_in t) place 0 ≡ key = (stands t place key b st h).1 in
+      let ks : keys_in (set t place e') ≡ keys_in t = map-set_same key_in t place e' nothing u in
+      let cs : counts_in (set t place e') ≡ set (counts_in t) place (get_or (counts_in t) place 0 + e.count) =
+      map-set count_in t place e' ∙ ap (set (counts_in t) place) (v ∙ ap₂ (λ (n k : ℕ). n + k) (sym (map_at count_in 0 nothing t place p)) (sym m)) in
+      rw (ks, cs) (shows_raised es (keys_in t) (counts_in t) s e place (omega (arith, p, map_length key_in t)) (q ∙ sym a))
 
   -- put in
-  not_there : b ≡ false → place < count → get_or k place 0 ≡ key → ⊥
+  not_there : b ≡ false → place < length t → get_or (keys_in t) place 0 ≡ key → ⊥
   not_there h p q =
-      torn (ltb place count && eqb (get_or k place 0) key) (and_both (ltb place count) (eqb (get_or k place 0) key) (lt-ltb place count p) (eq-eqb (get_or k place 0) key q)) (sym st ∙ h)
+      torn (ltb place (length t) && eqb (get_or (keys_in t) place 0) key) (and_both (ltb place (length t)) (eqb (get_or (keys_in t) place 0) key) (lt-ltb place (length t) p) (eq-eqb (get_or (keys_in t) place 0) key q)) (sym st ∙ h)
 
-  pub add_put : b ≡ false → (k' c' : List ℕ) → place ≤ count → take (count + 1) k' ≡ one_more (take count k) place key
-      → take (count + 1) c' ≡ one_more (take count c) place more → AddShows count place key more k c (count + 1) k' c'
-  unfolding one_more
-  add_put o k' c' p x y es e a m w s =
-      let l : length (take count k) ≡ count = length-take-le count k lk in
-      let x' : take (count + 1) k' ≡ one_more (take count k) place e.key = x ∙ ap (one_more (take count k) place) (sym a) in
-      let y' : take (count + 1) c' ≡ one_more (take count c) place e.count = y ∙ ap (one_more (take count c) place) (sym m) in
-      rw (x', y')
-      (shows_put es (take count k) (take count c) s e place (omega arith) (λ i h. omega (arith, w.lower i h, get_or-take count k i 0 (omega arith), a))
-      (λ i h j. omega (arith, higher i h (omega arith), get_or-take count k i 0 (omega arith), a)))
+  pub add_put : b ≡ false → place ≤ length t → AddShows place key more t (take place t ++ (tallied key more ∷ drop place t))
+  add_put o p es e a m w s =
+      let ks : keys_in (take place t ++ (tallied key more ∷ drop place t)) ≡ take place (keys_in t) ++ (e.key ∷ drop place (keys_in t)) =
+      map-append key_in (take place t) (tallied key more ∷ drop place t)
+      ∙ ap₂ (λ (x y : List ℕ). x ++ (key ∷ y)) (map_take key_in place t) (map_drop key_in place t) ∙ ap (λ (n : ℕ). take place (keys_in t) ++ (n ∷ drop place (keys_in t))) (sym a) in
+      let cs : counts_in (take place t ++ (tallied key more ∷ drop place t)) ≡ take place (counts_in t) ++ (e.count ∷ drop place (counts_in t)) =
+      map-append count_in (take place t) (tallied key more ∷ drop place t)
+      ∙ ap₂ (λ (x y : List ℕ). x ++ (more ∷ y)) (map_take count_in place t) (map_drop count_in place t) ∙ ap (λ (n : ℕ). take place (counts_in t) ++ (n ∷ drop place (counts_in t))) (sym m) in
+      rw (ks, cs)
+      (shows_put es (keys_in t) (counts_in t) s e place (omega (arith, p, map_length key_in t)) (λ i h. omega (arith, w.lower i h, a))
+      (λ i h j. omega (arith, higher i h (omega (arith, j, map_length key_in t)), a)))
     where
-      higher : (i : ℕ) → place ≤ i → i < count → key < get_or k i 0
+      higher : (i : ℕ) → place ≤ i → i < length t → key < get_or (keys_in t) i 0
       higher i h j = go (sides place i)
         where
-          first : place < count → key < get_or k place 0
-          first z = other (sides key (get_or k place 0)) z
+          first : place < length t → key < get_or (keys_in t) place 0
+          first z = other (sides key (get_or (keys_in t) place 0)) z
             where
-              other : Sides key (get_or k place 0) → place < count → key < get_or k place 0
+              other : Sides key (get_or (keys_in t) place 0) → place < length t → key < get_or (keys_in t) place 0
               other (less d) z = d
               other (equal d) z = absurd (not_there o z (sym d))
               other (greater d) z = absurd (omega (arith, w.others place (omega arith) z))
 
-          go : Sides place i → key < get_or k i 0
-          go (less d) = omega (arith, first (omega arith), keys_up es k c count lk s place i d j)
-          go (equal d) = subst (λ (z : ℕ). key < get_or k z 0) d (first (omega arith))
+          go : Sides place i → key < get_or (keys_in t) i 0
+          go (less d) = omega (arith, first (omega arith), keys_up es t s place i d j)
+          go (equal d) = subst (λ (z : ℕ). key < get_or (keys_in t) z 0) d (first (omega arith))
           go (greater d) = absurd (omega arith)
+
+-- raised, where the tally is the front of its room
+pub raised_at : (room : List Tallied) (count : ℕ) (t : List Tallied) (place key more : ℕ) → take count room ≡ t → (b : Bool) → b ≡ (ltb place (length t) && eqb (get_or (keys_in t) place 0) key) → b ≡ true
+    → AddShows place key more t (take count (set room place (tallied (get_or room place nothing).key ((get_or room place nothing).count + more))))
+raised_at room count t place key more is b st h =
+    let p : place < length t = (stands t place key b st h).0 in
+    let in_it : place < count = omega (arith, p, ap length is, length-take count room) in
+    let q : get_or t place nothing ≡ get_or room place nothing = ap (λ (l : List Tallied). get_or l place nothing) (sym is) ∙ get_or-take count room place nothing in_it in
+    let e' : Tallied = tallied (get_or room place nothing).key ((get_or room place nothing).count + more) in
+    rw (take-set-lt count room place e' in_it, is) (add_raised t place key more b st h e' (ap key_in (sym q)) (ap (λ (x : Tallied). x.count + more) (sym q)))

@@ -19,7 +19,8 @@ use Rattle.format.specs.Structure.{isotope_of, Atom, Entry, entry, entries_of, a
 use Rattle.format.specs.Table.{cell, count_at, atom_at, atom_place, atom_records, decode}
 use Rattle.format.proofs.PlaceLaws.{atom_place_lem}
 use Rattle.format.proofs.TotalLaws.{entries_bare, entries_implied}
-use Rattle.tally.specs.Ranks.{key_or, fine}
+use Rattle.std.specs.Prelude.{Option}
+use Rattle.tally.specs.Ranks.{key_if, fine}
 use Rattle.tally.specs.Gathering.{atoms_in, atom_no, atom_in}
 use Rattle.lists.proofs.IndexLaws.{map_length, map_at}
 use Rattle.tally.proofs.KeyLaws.{hydrogen_fine, atom_fine_lem}
@@ -29,9 +30,9 @@ module _ (t : List ℤ) (i p : ℕ) (low : i < 256) (at : p ≡ atom_place i) wh
   there : p ≡ 16 + 5 * i
   there = at ∙ atom_place_lem i low
 
-  pub key_read : (e m r : ℕ) → e ≡ cell t p → m ≡ cell t (p + 1) → r ≡ key_or (isotope_of e m) → r ≡ key_or (atom_no t i).kind
+  pub key_read : (e m : ℕ) (r : Option ℕ) → e ≡ cell t p → m ≡ cell t (p + 1) → r ≡ key_if (isotope_of e m) → r ≡ key_if (atom_no t i).kind
   unfolding atom_no
-  key_read e m r a b f = f ∙ ap₂ (λ (x y : ℕ). key_or (isotope_of x y)) (a ∙ ap (cell t) there) (b ∙ ap (λ (n : ℕ). cell t (n + 1)) there)
+  key_read e m r a b f = f ∙ ap₂ (λ (x y : ℕ). key_if (isotope_of x y)) (a ∙ ap (cell t) there) (b ∙ ap (λ (n : ℕ). cell t (n + 1)) there)
 
   pub implied_read : (r : ℕ) → r ≡ cell t (p + 2) → r ≡ (atom_no t i).hydrogens
   unfolding atom_no
@@ -91,8 +92,8 @@ module _ (t : List ℤ) (i : ℕ) where
       let first : cell t (16 + 5 * i) ≡ cell (drop 16 t) (5 * i) = ap nat_abs (sym (get_or-drop 16 t (5 * i) (pos 0))) in
       rw (first, sym (read_on 1), sym (read_on 2))
 
-  pub key_dropped : (r : ℕ) → r ≡ key_or (atom_no t i).kind → r ≡ key_or (atom_in (drop 16 t) i).kind
-  key_dropped r e = e ∙ ap (λ (a : Atom). key_or a.kind) atom_dropped
+  pub key_dropped : (r : Option ℕ) → r ≡ key_if (atom_no t i).kind → r ≡ key_if (atom_in (drop 16 t) i).kind
+  key_dropped r e = e ∙ ap (λ (a : Atom). key_if a.kind) atom_dropped
 
   pub implied_dropped : (r : ℕ) → r ≡ (atom_no t i).hydrogens → r ≡ (atom_in (drop 16 t) i).hydrogens
   implied_dropped r e = e ∙ ap (λ (a : Atom). a.hydrogens) atom_dropped

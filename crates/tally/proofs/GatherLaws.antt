@@ -2,43 +2,42 @@
 -- one written form", and document 02, L1. Assumes nothing.
 use Prim.Native.Nat.{ℕ, zero, suc, ◌+◌, ◌-◌, ◌*◌, ◌/◌, ◌%◌, ◌≤◌, ◌<◌}
 use mathlib.Core.Path.{◌≡◌, refl, sym, ap, ap₂, ◌∙◌, subst}
-use mathlib.Core.Bool.{Bool, true, false, ◌||◌}
+use mathlib.Core.Bool.{Bool, true, false}
 use mathlib.Core.List.{List, [], ◌∷◌, map}
 use native.Mathlib.Numerals.{add-one}
 use native.Mathlib.Omega.{arith}
-use lib.ListN.{length, set, get_or, take, drop, get_or-eq_default}
-use lib.Seq.{length-take-le, take_all, get_or-take}
+use lib.ListN.{length, get_or, take, drop, get_or-eq_default}
+use lib.Seq.{length-take-le, take_all}
 use lib.IntN.{ℤ}
 use lib.Dec.{eqb, ltb}
 use borrow.Author.Tests.{lt-ltb, ltb-true, ltb-false, eqb-true, eqb-false, eq-eqb, ne_eqb}
+use Rattle.std.specs.Prelude.{Some, None}
 use Rattle.lists.specs.Lists.{share, all, any, count_up}
-use Rattle.lists.proofs.Bools.{or_left, or_right}
 use Rattle.lists.proofs.ListLaws.{all_nil, all_parts, all_both, all_at, all_imply}
 use Rattle.lists.proofs.PartLaws.{all_map}
 use Rattle.lists.proofs.IndexLaws.{map_length, map_at, count_long, count_at_lem}
 use Rattle.format.specs.Structure.{Isotope, Atom, entries_of, total, group_of, groups_by, atom_ok}
 use Rattle.format.specs.Table.{count_at, decode}
 use Rattle.format.proofs.TotalLaws.{entries_counted}
-use Rattle.tally.specs.Ranks.{key_of, key_or, fine}
-use Rattle.tally.specs.Gathering.{in_formula, in_group, group_keys, group_counts, Gathered, Gathers, atoms_in, GathersAtoms, Tallied, tallied, sum_of, Shows, KeysAscend, Between, AddShows, atom_no, atom_in, left, LeftShows}
-use Rattle.tally.proofs.KeyLaws.{atom_fine_lem, key_or_lem, key_some, key_high, key_given}
-use Rattle.tally.proofs.ShowLaws.{sum_nil, shows_none, shows_count}
+use Rattle.tally.specs.Ranks.{key_of, key_if, fine}
+use Rattle.tally.specs.declared.entries.Entry.{Entry as Tallied}
+use Rattle.tally.specs.Gathering.{in_formula, in_group, group_keys, group_counts, keys_in, counts_in, Gathered, Gathers, atoms_in, GathersAtoms, tallied, sum_of, Shows, TallyShows, KeysAscend, PlaceOf, AddShows, atom_no, atom_in, closed, CloseShows}
+use Rattle.tally.proofs.KeyLaws.{atom_fine_lem, key_if_lem, key_high}
+use Rattle.tally.proofs.ShowLaws.{sum_nil, shows_none, shows_long, shows_count}
 use Rattle.tally.proofs.AddLaws.{keys_up}
 use Rattle.tally.proofs.AtomLaws.{atoms_long, atom_at_lem, atoms_to, atoms_are, part_atoms, entries_fine}
 use Rattle.tally.proofs.SumLaws.{plain, sum_cons, keys_summed, sum_at, group_sum}
 use Rattle.tally.proofs.FormulaLaws.{ascending_same, sum_total, formula_fine_lem, formula_ascends, formula_there}
 use Rattle.tally.proofs.GroupLaws.{joined_keys, AllFit, joined_ascends, joined_there, keys_of, keys_at, keys_joined, no_isotope, counts_are}
 
--- so many atoms of a table's part t in by their labels, h implied hydrogens of a group not yet counted: the regions k and c show the others
-pub record Passed (t : List ℤ) (ls : List ℕ) (i room count group h : ℕ) (k c : List ℕ) : Type 0 where
-  pub few : count ≤ room
-  pub within : count ≤ length k
+-- so many atoms of a table's part t in by their labels, h implied hydrogens of the group that runs not yet counted: the tally k shows the others
+pub record Passed (t : List ℤ) (ls : List ℕ) (i room group h : ℕ) (k : List Tallied) : Type 0 where
+  pub few : length k ≤ room
   pub small : h ≤ 15 * i
-  pub none : group ≡ 256 → h ≡ 0
   pub most : (x : ℕ) → sum_at t ls i x ≤ 16 * i
   pub entries : List Tallied
   pub counted : all (λ (e : Tallied). ltb 0 e.count) entries ≡ true
-  pub shows : Shows entries (take count k) (take count c)
+  pub shows : TallyShows entries k
   pub sums : (x : ℕ) → share (eqb x (in_group group 1024)) h + sum_of x entries ≡ sum_at t ls i x
 
 share_none : (b : Bool) → share b 0 ≡ 0
@@ -53,156 +52,116 @@ share_most : (b : Bool) (n : ℕ) → share b n ≤ n
 share_most true n = omega arith
 share_most false n = omega arith
 
-pub passed_none : (t : List ℤ) (ls k c : List ℕ) → Passed t ls 0 (2 * 0 - 1) 0 256 0 k c
+pub passed_none : (t : List ℤ) (ls : List ℕ) → Passed t ls 0 (2 * 0 - 1) 0 0 []
 unfolding sum_at
-passed_none t ls k c = record {
+passed_none t ls = record {
   few = omega arith;
-  within = omega arith;
   small = omega arith;
-  none = λ e. refl;
   most = λ x. omega arith;
   entries = [];
   counted = all_nil (λ (e : Tallied). ltb 0 e.count);
   shows = shows_none;
-  sums = λ x. omega (arith, share_none (eqb x (in_group 256 1024)), sum_nil x);
+  sums = λ x. omega (arith, share_none (eqb x (in_group 0 1024)), sum_nil x);
 }
 
--- before the first atom there is no group to leave
-pub room_left : (i count h r : ℕ) → count ≤ 2 * i - 1 → h ≤ 15 * i → r ≤ count + 1 → (h ≡ 0 → r ≡ count) → r ≤ 2 * i
-room_left zero count h r a b d e = omega (arith, a, e (omega (arith, b)))
-room_left (suc i) count h r a b d e = omega arith
-
-module _ (t : List ℤ) (ls : List ℕ) (i room count group h : ℕ) (k c : List ℕ) (p : Passed t ls i room count group h k c) where
-  pub passed_up : KeysAscend count k
-  passed_up = keys_up p.entries k c count p.within p.shows
+module _ (t : List ℤ) (ls : List ℕ) (i room group h : ℕ) (k : List Tallied) (p : Passed t ls i room group h k) where
+  pub passed_up : KeysAscend k
+  passed_up = keys_up p.entries k p.shows
 
   -- no count passes what the atoms that are in can count
-  pub passed_small : (place : ℕ) → place < count → get_or c place 0 ≤ 16 * i
-  passed_small place b =
-      let x : ℕ = get_or (take count k) place 0 in
-      omega (
-        arith,
-        get_or-take count c place 0 b,
-        shows_count p.entries (take count k) (take count c) p.shows place (omega (arith, length-take-le count k p.within)),
-        p.sums x,
-        p.most x,
-      )
+  pub passed_small : (place : ℕ) → get_or (counts_in k) place 0 ≤ 16 * i
+  passed_small place = by (ltb place (length (keys_in k))) refl
+    where
+      x : ℕ
+      x = get_or (keys_in k) place 0
 
-  -- the group is left, or goes on
-  module _ (next r room' : ℕ) (k' c' : List ℕ) (l : r ≤ room') (w : r ≤ length k') (s : LeftShows count group next h k c r k' c') where
-    gone : next ≡ 256 → share (eqb group next) h ≡ 0
-    gone e = by (eqb group next) refl
-      where
-        by : (b : Bool) → eqb group next ≡ b → share b h ≡ 0
-        by true f = p.none (eqb-true group next f ∙ e)
-        by false f = refl
+      by : (b : Bool) → ltb place (length (keys_in k)) ≡ b → get_or (counts_in k) place 0 ≤ 16 * i
+      by true e = omega (arith, shows_count p.entries (keys_in k) (counts_in k) p.shows place (ltb-true place _ e), p.sums x, p.most x)
+      by false e = let z : get_or (counts_in k) place 0 ≡ 0 = get_or-eq_default (counts_in k) 0 (omega (arith, ltb-false place _ e, shows_long p.entries (keys_in k) (counts_in k) p.shows)) in omega arith
+
+  -- room for more
+  pub passed_roomy : (room' : ℕ) → room ≤ room' → Passed t ls i room' group h k
+  passed_roomy room' q = record { few = omega (arith, p.few, q); small = p.small; most = p.most; entries = p.entries; counted = p.counted; shows = p.shows; sums = p.sums }
+
+  -- the group ends; before the first atom there is nothing to count
+  module _ (next : ℕ) (k' : List Tallied) (q : room ≡ 2 * i - 1) (few : length k' ≤ length k + 1) (same : h ≡ 0 → k' ≡ k) (s : CloseShows group h k k') where
+    room_left : (j : ℕ) → i ≡ j → length k' ≤ 2 * j
+    room_left zero e = omega (arith, p.few, ap length (same (omega (arith, p.small, e))), q, e)
+    room_left (suc j) e = omega (arith, p.few, few, q, e)
 
     abbrev Next : Type 0
-    Next = Passed t ls i room' r next (share (eqb group next) h) k' c'
+    Next = Passed t ls i (2 * i) next 0 k'
 
-    with_entries : (es : List Tallied) → left group next h p.entries ≡ es → all (λ (e : Tallied). ltb 0 e.count) es ≡ true
-        → ((x : ℕ) → share (eqb x (in_group next 1024)) (share (eqb group next) h) + sum_of x es ≡ share (eqb x (in_group group 1024)) h + sum_of x p.entries) → Next
-    with_entries es e n q = record {
-      few = l;
-      within = w;
-      small = omega (arith, p.small, share_most (eqb group next) h);
-      none = gone;
+    with_entries : (es : List Tallied) → closed group h p.entries ≡ es → all (λ (e : Tallied). ltb 0 e.count) es ≡ true → ((x : ℕ) → sum_of x es ≡ share (eqb x (in_group group 1024)) h + sum_of x p.entries) → Next
+    with_entries es e n f = record {
+      few = room_left i refl;
+      small = omega arith;
       most = p.most;
       entries = es;
       counted = n;
-      shows = subst (λ (xs : List Tallied). Shows xs (take r k') (take r c')) e (s p.entries p.shows);
-      sums = λ x. q x ∙ p.sums x;
+      shows = subst (λ (xs : List Tallied). TallyShows xs k') e (s p.entries p.shows);
+      sums = λ x. ap (λ (m : ℕ). m + sum_of x es) (share_none (eqb x (in_group next 1024))) ∙ omega (arith, f x, p.sums x);
     }
 
-    pub passed_left : Next
-    unfolding left
-    passed_left = by (eqb group next) (eqb h 0) refl refl
+    pub passed_closed : Next
+    unfolding closed
+    passed_closed = by (eqb h 0) refl
       where
-        by : (b d : Bool) → eqb group next ≡ b → eqb h 0 ≡ d → Next
-        by true d e f =
-            with_entries p.entries (rw (e, left)) p.counted
-            (λ x. ap (λ (m : ℕ). m + sum_of x p.entries) (ap (share (eqb x (in_group next 1024))) (ap (λ (a : Bool). share a h) e) ∙ ap (λ (m : ℕ). share (eqb x (in_group m 1024)) h) (sym (eqb-true group next e))))
-        by false true e f =
-            let z : h ≡ 0 = eqb-true h 0 f in
-            with_entries p.entries (rw (e, f, left)) p.counted
-            (λ x. ap (λ (m : ℕ). m + sum_of x p.entries) (ap (share (eqb x (in_group next 1024))) (ap (λ (a : Bool). share a h) e) ∙ share_none (eqb x (in_group next 1024)) ∙ sym (ap (share (eqb x (in_group group 1024))) z ∙ share_none (eqb x (in_group group 1024)))))
-        by false false e f =
-            with_entries (tallied (in_group group 1024) h ∷ p.entries) (rw (e, f, left))
-            (all_both (λ (a : Tallied). ltb 0 a.count) (tallied (in_group group 1024) h) p.entries (lt-ltb 0 h (some h (eqb-false h 0 f))) p.counted)
-            (λ x. omega (arith, ap (share (eqb x (in_group next 1024))) (ap (λ (a : Bool). share a h) e), share_none (eqb x (in_group next 1024)), sum_cons x (tallied (in_group group 1024) h) p.entries))
-          where
-            some : (n : ℕ) → (n ≡ 0 → ⊥) → 0 < n
-            some zero g = absurd (g refl)
-            some (suc n) g = omega arith
+        some : (n : ℕ) → (n ≡ 0 → ⊥) → 0 < n
+        some zero g = absurd (g refl)
+        some (suc n) g = omega arith
 
-    pub passed_on : (g : ℕ) → g ≡ share (eqb group next) h → Passed t ls i room' r next g k' c'
-    passed_on g e = subst (λ (m : ℕ). Passed t ls i room' r next m k' c') (sym e) passed_left
+        by : (b : Bool) → eqb h 0 ≡ b → Next
+        by true e =
+            with_entries p.entries (rw (e, closed)) p.counted
+            (λ x. sym (ap (λ (m : ℕ). m + sum_of x p.entries) (ap (share (eqb x (in_group group 1024))) (eqb-true h 0 e) ∙ share_none (eqb x (in_group group 1024))) ∙ omega arith))
+        by false e =
+            with_entries (tallied (in_group group 1024) h ∷ p.entries) (rw (e, closed))
+            (all_both (λ (a : Tallied). ltb 0 a.count) (tallied (in_group group 1024) h) p.entries (lt-ltb 0 h (some h (eqb-false h 0 e))) p.counted)
+            (λ x. sum_cons x (tallied (in_group group 1024) h) p.entries)
 
   -- one atom more, of the group that runs
-  pub passed_one : (own place more key r : ℕ) (k' c' : List ℕ) → room ≡ 2 * i → group ≡ get_or ls i 0 → group < 256 → own ≡ key_or (atom_in t i).kind → (own ≡ 0 → ⊥) → more ≡ (atom_in t i).hydrogens → more ≤ 15
-      → key ≡ in_group group own → Between k count key place place → r ≤ count + 1 → count < 512 → length k' ≡ 512 → AddShows count place key 1 k c r k' c' → Passed t ls (i + 1) (2 * (i + 1) - 1) r group (h + more) k' c'
+  pub passed_one : (own place more key : ℕ) (k' : List Tallied) → room ≡ 2 * i → group ≡ get_or ls i 0 → key_of (atom_in t i).kind ≡ own → more ≡ (atom_in t i).hydrogens → more ≤ 15
+      → key ≡ in_group group own → PlaceOf key k place → length k' ≤ length k + 1 → AddShows place key 1 k k' → Passed t ls (i + 1) (2 * (i + 1) - 1) group (h + more) k'
   unfolding sum_at
-  passed_one own place more key r k' c' q g b e n m f kk w l u z s =
-      let e' : key_of (atom_in t i).kind ≡ own = key_given (atom_in t i).kind (λ y. n (e ∙ y)) ∙ sym e in
+  passed_one own place more key k' q g e' m f kk w l s =
       let v : (x : ℕ) → sum_at t ls (i + 1) x ≡ (share (eqb x key) 1 + share (eqb x (in_group group 1024)) more) + sum_at t ls i x =
       λ x. ap (λ (j : ℕ). sum_at t ls j x) (add-one i)
       ∙ ap₂ (λ (y o : ℕ). (share (eqb x (in_group y o)) 1 + share (eqb x (in_group y 1024)) (atom_in t i).hydrogens) + sum_at t ls i x) (sym g) e'
       ∙ ap₂ (λ (y o : ℕ). (share (eqb x y) 1 + share (eqb x (in_group group 1024)) o) + sum_at t ls i x) (sym kk) (sym m) in
       record {
         few = omega (arith, p.few, l, q);
-        within = omega arith;
-        small = omega (arith, p.small);
-        none = λ y. absurd (omega (arith, b, y));
-        most = λ x. omega (arith, v x, p.most x, share_most (eqb x key) 1, share_most (eqb x (in_group group 1024)) more);
+        small = omega (arith, p.small, f);
+        most = λ x. omega (arith, v x, p.most x, share_most (eqb x key) 1, share_most (eqb x (in_group group 1024)) more, f);
         entries = tallied key 1 ∷ p.entries;
         counted = all_both (λ (a : Tallied). ltb 0 a.count) (tallied key 1) p.entries refl p.counted;
         shows = s p.entries (tallied key 1) refl refl w p.shows;
         sums = λ x. omega (arith, p.sums x, v x, share_sum (eqb x (in_group group 1024)) h more, sum_cons x (tallied key 1) p.entries);
       }
 
--- the next atom's group runs from here on: what leaving the one before left of the entries
-pub passed_next : (t : List ℤ) (ls : List ℕ) (i count group h : ℕ) (k c : List ℕ) → Passed t ls i (2 * i - 1) count group h k c → i < 256 → (next r g : ℕ) (k' c' : List ℕ)
-    → (length k' ≡ 512) × (length c' ≡ 512) × (r ≤ count + 1) × (h ≡ 0 → r ≡ count) × LeftShows count group next h k c r k' c' → g ≡ share (eqb group next) h → Passed t ls i (2 * i) r next g k' c'
-passed_next t ls i count group h k c p b next r g k' c' (long, _, few, same, s) e =
-    passed_on t ls i (2 * i - 1) count group h k c p next r (2 * i) k' c' (room_left i count h r p.few p.small few same) (omega (arith, long, few, p.few, b)) s g e
+-- A GROUP CLOSED, as the code does it
+module _ (group h : ℕ) (k : List Tallied) where
+  pub closed_none : h ≡ 0 → CloseShows group h k k
+  unfolding closed
+  closed_none e es s = subst (λ (xs : List Tallied). TallyShows xs k) (sym (rw (eq-eqb h 0 e, closed))) s
 
--- WHERE AN ELEMENT WAS PUT LAST: a place below a bound put among such places
-pub low_set : (b : ℕ) (l : List ℕ) → ((j : ℕ) → get_or l j 0 ≤ b) → (i a : ℕ) → a ≤ b → (j : ℕ) → get_or (set l i a) j 0 ≤ b
-low_set b [] h i a k j = h j
-low_set b (x ∷ xs) h zero a k zero = k
-low_set b (x ∷ xs) h zero a k (suc j) = h (suc j)
-low_set b (x ∷ xs) h (suc i) a k zero = h zero
-low_set b (x ∷ xs) h (suc i) a k (suc j) = low_set b xs (λ m. h (suc m)) i a k j
-
--- A GROUP LEFT, as the code does it
-module _ (count group next h : ℕ) (k c : List ℕ) where
-  left_stays : (es : List Tallied) → (eqb group next || eqb h 0) ≡ true → left group next h es ≡ es
-  unfolding left
-  left_stays es e = rw (e, left)
-
-  pub left_same : group ≡ next → LeftShows count group next h k c count k c
-  left_same e es s = subst (λ (xs : List Tallied). Shows xs (take count k) (take count c)) (sym (left_stays es (or_left (eqb group next) (eqb h 0) (eq-eqb group next e)))) s
-
-  pub left_none : h ≡ 0 → LeftShows count group next h k c count k c
-  left_none e es s = subst (λ (xs : List Tallied). Shows xs (take count k) (take count c)) (sym (left_stays es (or_right (eqb group next) (eqb h 0) (eq-eqb h 0 e)))) s
-
-  pub left_added : (group ≡ next → ⊥) → (h ≡ 0 → ⊥) → (key place r : ℕ) (k' c' : List ℕ) → key ≡ in_group group 1024 → Between k count key place place → AddShows count place key h k c r k' c' → LeftShows count group next h k c r k' c'
-  unfolding left
-  left_added n m key place r k' c' e w f es s =
-      let q : left group next h es ≡ tallied (in_group group 1024) h ∷ es = rw (ne_eqb group next n, ne_eqb h 0 m, left) in
-      subst (λ (xs : List Tallied). Shows xs (take r k') (take r c')) (sym q) (f es (tallied (in_group group 1024) h) (sym e) refl w s)
+  pub closed_added : (h ≡ 0 → ⊥) → (key place : ℕ) (k' : List Tallied) → key ≡ in_group group 1024 → (KeysAscend k → PlaceOf key k place) → AddShows place key h k k' → CloseShows group h k k'
+  unfolding closed
+  closed_added m key place k' e w f es s =
+      let q : closed group h es ≡ tallied (in_group group 1024) h ∷ es = rw (ne_eqb h 0 m, closed) in
+      subst (λ (xs : List Tallied). TallyShows xs k') (sym q) (f es (tallied (in_group group 1024) h) (sym e) refl (w (keys_up es k s)) s)
 
 -- AN ATOM THAT NO SOUND TABLE HAS
-module _ (t : List ℤ) (ls : List ℕ) (i r : ℕ) (k c : List ℕ) (b : i < length ls) where
+module _ (t : List ℤ) (ls : List ℕ) (i : ℕ) (k : List Tallied) (b : i < length ls) where
   there : all (atom_ok 103) (atoms_in t (length ls)) ≡ true → atom_ok 103 (atom_in t i) ≡ true
   there h = atom_at_lem (atom_ok 103) t (length ls) i h b
 
-  pub no_kind : (key : ℕ) → key ≡ key_or (atom_in t i).kind → key ≡ 0 → GathersAtoms t ls r k c
-  no_kind key e z h lab =
+  pub no_kind : None ≡ key_if (atom_in t i).kind → GathersAtoms t ls k
+  no_kind e h lab =
       let f : fine (atom_in t i).kind ≡ true = (atom_fine_lem (atom_in t i) (there h)).0 in
-      absurd (omega (arith, key_some (atom_in t i).kind f, key_or_lem (atom_in t i).kind f, e, z))
+      let w : Some (key_of (atom_in t i).kind) ≡ None = sym (key_if_lem (atom_in t i).kind f) ∙ sym e in cc
 
-  pub no_hydrogens : (more : ℕ) → more ≡ (atom_in t i).hydrogens → 15 < more → GathersAtoms t ls r k c
+  pub no_hydrogens : (more : ℕ) → more ≡ (atom_in t i).hydrogens → 15 < more → GathersAtoms t ls k
   no_hydrogens more e z h lab = absurd (omega (arith, (atom_fine_lem (atom_in t i) (there h)).1, e, z))
 
 -- A GROUP'S atoms are the table's; none is in a group that no label names
@@ -309,25 +268,23 @@ module _ (t : List ℤ) (labels : List ℕ) (n : ℕ) (ok : all (atom_ok 103) (a
     counts_own = s.sums ∙ ap (map (λ k. sum_of k es)) keys_are ∙ counts_are es 0 gs total_own
 
 -- what is left in the end
-pub gathered : (t : List ℤ) (ls : List ℕ) (i room count h : ℕ) (k c : List ℕ) → i ≡ length ls → Passed t ls i room count 256 h k c → GathersAtoms t ls count k c
-gathered t ls i room count h k c q passed ok lab =
+pub gathered : (t : List ℤ) (ls : List ℕ) (i room group : ℕ) (k : List Tallied) → i ≡ length ls → Passed t ls i room group 0 k → GathersAtoms t ls k
+gathered t ls i room group k q passed ok lab =
     let n : ℕ = length ls in
-    let p : Passed t ls n room count 256 h k c = subst (λ (j : ℕ). Passed t ls j room count 256 h k c) q passed in
+    let p : Passed t ls n room group 0 k = subst (λ (j : ℕ). Passed t ls j room group 0 k) q passed in
     let whole : take n ls ≡ ls = take_all n ls (omega arith) in
     let named : all (λ l. ltb l n) (take n ls) ≡ true = ap (all (λ l. ltb l n)) whole ∙ lab in
-    let sums : (x : ℕ) → sum_of x p.entries ≡ sum_at t ls n x = λ x. omega (arith, p.sums x, ap (share (eqb x (in_group 256 1024))) (p.none refl), share_none (eqb x (in_group 256 1024))) in
+    let sums : (x : ℕ) → sum_of x p.entries ≡ sum_at t ls n x = λ x. omega (arith, p.sums x, share_none (eqb x (in_group group 1024))) in
     let same : groups_by (map suc ls) (atoms_in t n) ≡ map (λ i. group_of i (map suc (take n ls)) (atoms_in t n)) (count_up 1 n) =
     ap (λ (m : ℕ). map (λ i. group_of i (map suc ls) (atoms_in t n)) (count_up 1 m)) (atoms_long t n) ∙ ap (λ (xs : List ℕ). map (λ i. group_of i (map suc xs) (atoms_in t n)) (count_up 1 n)) (sym whole) in
-    let keys : take count k ≡ group_keys 0 (groups_by (map suc ls) (atoms_in t n)) = keys_are t ls n ok (omega arith) named p.entries p.counted sums (take count k) (take count c) p.shows ∙ ap (group_keys 0) (sym same) in
     record {
-      size = sym (length-take-le count k p.within) ∙ ap length keys;
-      sorted = keys;
-      totals = counts_own t ls n ok (omega arith) named p.entries p.counted sums (take count k) (take count c) p.shows ∙ ap group_counts (sym same);
+      sorted = keys_are t ls n ok (omega arith) named p.entries p.counted sums (keys_in k) (counts_in k) p.shows ∙ ap (group_keys 0) (sym same);
+      totals = counts_own t ls n ok (omega arith) named p.entries p.counted sums (keys_in k) (counts_in k) p.shows ∙ ap group_counts (sym same);
     }
 
 -- OF A TABLE: a part of it whose atoms by index are the table's, and as many labels
-pub of_table : (t a : List ℤ) (labels : List ℕ) (n m r : ℕ) (k c : List ℕ) → (n ≡ count_at t 0 256) × (n ≤ 256) → ((i : ℕ) → i < 256 → atom_in a i ≡ atom_no t i) → m ≡ n → n ≤ length labels → GathersAtoms a (take m labels) r k c → Gathers t labels r k c
-of_table t a labels n m r k c q same f enough g ok lab =
+pub of_table : (t a : List ℤ) (labels : List ℕ) (n m : ℕ) (k : List Tallied) → (n ≡ count_at t 0 256) × (n ≤ 256) → ((i : ℕ) → i < 256 → atom_in a i ≡ atom_no t i) → m ≡ n → n ≤ length labels → GathersAtoms a (take m labels) k → Gathers t labels k
+of_table t a labels n m k q same f enough g ok lab =
     let e : (decode t).atoms ≡ atoms_in a n = atoms_are t ∙ ap (atoms_to t) (sym q.0) ∙ part_atoms t a n q.1 same in
     let size : length (decode t).atoms ≡ n = ap length e ∙ atoms_long a n in
     let own : length (take m labels) ≡ n = length-take-le m labels (omega (arith, f, enough)) ∙ f in
@@ -335,18 +292,12 @@ of_table t a labels n m r k c q same f enough g ok lab =
     let named : all (λ l. ltb l (length (take m labels))) (take m labels) ≡ true =
     subst (λ (j : ℕ). all (λ l. ltb l j) (take m labels) ≡ true) (size ∙ sym own) (subst (λ (j : ℕ). all (λ l. ltb l (length (decode t).atoms)) (take j labels) ≡ true) (size ∙ sym f) lab.named) in
     let fine_atoms : all (atom_ok 103) (atoms_in a (length (take m labels))) ≡ true = ap (all (atom_ok 103)) atoms ∙ ok in
-    subst (λ (gs : List (List Atom)). Gathered gs r k c)
+    subst (λ (gs : List (List Atom)). Gathered gs k)
     (ap (groups_by (map suc (take m labels))) atoms ∙ ap (λ (j : ℕ). groups_by (map suc (take j labels)) (decode t).atoms) (f ∙ sym size))
     (g fine_atoms named)
 
-pub shared_on : (group next h r : ℕ) → group ≡ next → r ≡ h → r ≡ share (eqb group next) h
-shared_on group next h r e f = f ∙ ap (λ (b : Bool). share b h) (sym (eq-eqb group next e))
-
-pub shared_off : (group next h : ℕ) → (group ≡ next → ⊥) → 0 ≡ share (eqb group next) h
-shared_off group next h n = ap (λ (b : Bool). share b h) (sym (ne_eqb group next n))
-
 -- too few labels
-pub no_labels : (t : List ℤ) (labels : List ℕ) (n r : ℕ) (k c : List ℕ) → n ≡ count_at t 0 256 → length labels < n → Gathers t labels r k c
-no_labels t labels n r k c q h ok lab =
+pub no_labels : (t : List ℤ) (labels : List ℕ) (n : ℕ) (k : List Tallied) → n ≡ count_at t 0 256 → length labels < n → Gathers t labels k
+no_labels t labels n k q h ok lab =
     let e : (decode t).atoms ≡ atoms_to t n = atoms_are t ∙ ap (atoms_to t) (sym q) in
     absurd (omega (arith, h, lab.enough, ap length e ∙ atoms_long (drop 16 t) n))

@@ -16,7 +16,8 @@ use Rattle.lists.proofs.LexLaws.{Sides, less, equal, greater, sides}
 use Rattle.lists.proofs.SortLaws.{ascends_nil, ascends_parts, ascends_both}
 use Rattle.format.specs.Structure.{Isotope, isotope_of, Atom, entries_of, total, kinds}
 use Rattle.tally.specs.Ranks.{key_of}
-use Rattle.tally.specs.Gathering.{in_formula, in_group, group_keys, group_counts, Tallied, sum_of}
+use Rattle.tally.specs.declared.entries.Entry.{Entry as Tallied}
+use Rattle.tally.specs.Gathering.{in_formula, in_group, group_keys, group_counts, sum_of}
 
 -- LISTS OF KEYS, each in its group
 abbrev pub joined_keys : (first : ℕ) → List (List ℕ) → List ℕ

@@ -11,8 +11,9 @@ use Rattle.lists.proofs.LexLaws.{Sides, less, equal, greater, sides}
 use Rattle.format.specs.Bytes.{within}
 use Rattle.format.specs.Structure.{Isotope, isotope_of, same_isotope, Atom, atom_ok}
 use Rattle.format.specs.Writing.{formula_before}
-use Rattle.tally.specs.Ranks.{rank_of, element_of, key_of, fine, key_or}
-use Rattle.tally.proofs.RankLaws.{rank_back, rank_low, rank_high, rank_before, rank_equal}
+use Rattle.tally.specs.Ranks.{rank_of, element_of, key_of, fine, key_if}
+use Rattle.std.specs.Prelude.{Some, None}
+use Rattle.tally.proofs.RankLaws.{rank_back, rank_high, rank_before, rank_equal}
 
 -- NUMBERS WITH TWO DIGITS to the base 512
 module _ (b d : ℕ) (p : b < 512) (q : d < 512) (a c : ℕ) where
@@ -61,15 +62,11 @@ atom_fine_lem a h =
     let q = and_parts (leb a.kind.mass 300) (leb a.hydrogens 15) p.1 in
     (and_both (within 1 103 a.kind.element) (leb a.kind.mass 300) p.0 q.0, leb-true a.hydrogens 15 q.1)
 
--- ITS KEY is not 0, and gives it back
+-- ITS KEY gives it back
 module _ (i : Isotope) (h : fine i ≡ true) where
-  pub key_or_lem : key_or i ≡ key_of i
-  unfolding key_or
-  key_or_lem = rw (h, key_or)
-
-  pub key_some : 0 < key_of i
-  unfolding key_of
-  key_some = let f = fine_parts i h in omega (arith, rank_low i.element f.low f.high)
+  pub key_if_lem : key_if i ≡ Some (key_of i)
+  unfolding key_if
+  key_if_lem = rw (h, key_if)
 
   pub key_high : key_of i < 65536
   unfolding key_of
@@ -89,40 +86,33 @@ module _ (i : Isotope) (h : fine i ≡ true) where
   pub key_back : isotope_of (element_of (key_of i / 512)) (key_of i % 512) ≡ i
   key_back = ap₂ isotope_of key_element key_mass
 
--- THE KEY OR 0
-pub key_out : (i : Isotope) → fine i ≡ false → key_or i ≡ 0
-unfolding key_or
-key_out i h = rw (h, key_or)
+-- THE KEY, if there is one
+pub key_out : (i : Isotope) → fine i ≡ false → key_if i ≡ None
+unfolding key_if
+key_out i h = rw (h, key_if)
 
-pub key_or_high : (i : Isotope) → key_or i < 65536
-key_or_high i = go (fine i) refl
+-- a key that there is is that of a fine element and mass
+pub key_given : (i : Isotope) (k : ℕ) → Some k ≡ key_if i → (key_of i ≡ k) × (k < 65536)
+key_given i k e = go (fine i) refl
   where
-    go : (t : Bool) → fine i ≡ t → key_or i < 65536
-    go true h = omega (arith, key_or_lem i h, key_high i h)
-    go false h = omega (arith, key_out i h)
+    go : (t : Bool) → fine i ≡ t → (key_of i ≡ k) × (k < 65536)
+    go true h = let w : Some k ≡ Some (key_of i) = e ∙ key_if_lem i h in let q : key_of i ≡ k = cc in (q, omega (arith, q, key_high i h))
+    go false h = let w : Some k ≡ None = e ∙ key_out i h in cc
 
 module _ (e m : ℕ) where
-  pub key_no_element : within 1 103 e ≡ false → 0 ≡ key_or (isotope_of e m)
+  pub key_no_element : within 1 103 e ≡ false → None ≡ key_if (isotope_of e m)
   unfolding fine
   key_no_element h = sym (key_out (isotope_of e m) (and_left_false (within 1 103 e) (leb m 300) h))
 
-  pub key_no_mass : 300 < m → 0 ≡ key_or (isotope_of e m)
+  pub key_no_mass : 300 < m → None ≡ key_if (isotope_of e m)
   unfolding fine
   key_no_mass h = sym (key_out (isotope_of e m) (and_right_false (within 1 103 e) (leb m 300) (lt-leb m 300 h)))
 
-  pub key_is : (r : ℕ) → 1 ≤ e → e ≤ 103 → m ≤ 300 → r ≡ rank_of e → 512 * r + m ≡ key_or (isotope_of e m)
+  pub key_is : (r : ℕ) → 1 ≤ e → e ≤ 103 → m ≤ 300 → r ≡ rank_of e → Some (512 * r + m) ≡ key_if (isotope_of e m)
   unfolding key_of fine within
   key_is r l h k q =
       let f : fine (isotope_of e m) ≡ true = and_both (within 1 103 e) (leb m 300) (and_both (leb 1 e) (leb e 103) (le-leb 1 e l) (le-leb e 103 h)) (le-leb m 300 k) in
-      ap (λ (n : ℕ). 512 * n + m) q ∙ sym (key_or_lem (isotope_of e m) f)
-
--- a key that is not 0 is that of a fine element and mass
-pub key_given : (i : Isotope) → (key_or i ≡ 0 → ⊥) → key_of i ≡ key_or i
-key_given i n = go (fine i) refl
-  where
-    go : (t : Bool) → fine i ≡ t → key_of i ≡ key_or i
-    go true h = sym (key_or_lem i h)
-    go false h = absurd (n (key_out i h))
+      ap (λ (n : ℕ). Some (512 * n + m)) q ∙ sym (key_if_lem (isotope_of e m) f)
 
 -- TWO OF THEM: the formula's order is the order of the keys; one key, one element and mass
 module _ (i j : Isotope) (h : fine i ≡ true) (k : fine j ≡ true) where

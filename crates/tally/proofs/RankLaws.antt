@@ -7,11 +7,14 @@ use mathlib.Core.List.{List, [], ◌∷◌}
 use native.Mathlib.Omega.{arith}
 use lib.ListN.{length, get_or, get_or-eq_default}
 use lib.Dec.{eqb, ltb, leb}
-use borrow.Author.Tests.{eqb-true, leb-true, ltb-true, lt-ltb, le-ltb, eq-eqb}
+use borrow.Author.Tests.{eqb-true, leb-true, lt-ltb, le-ltb, eq-eqb}
+use Rattle.std.proofs.Common.{Bor, Option, Some, None, ltb-false}
+use Rattle.std.specs.Option.{MatchOption}
+use Rattle.std.specs.Slice.{IsItemAt}
 use Rattle.lists.specs.Lists.{all}
 use Rattle.lists.specs.Order.{lex_before, insert, sort, ascends, Strict}
 use Rattle.lists.proofs.Bools.{and_parts, both_ways}
-use Rattle.lists.proofs.ListLaws.{all_parts, all_at}
+use Rattle.lists.proofs.ListLaws.{all_parts}
 use Rattle.lists.proofs.LexLaws.{Sides, less, equal, greater, sides, lex_strict, strict_by}
 use Rattle.format.specs.Bytes.{bytes, blank, gap, cons_to, fields}
 use Rattle.format.specs.Structure.{symbols}
@@ -63,16 +66,9 @@ element_is r = ap (λ (l : List ℕ). get_or (0 ∷ l) r 0) (sym ordered)
 pub element_told : (r n : ℕ) → r ≡ n → get_or elements n 0 ≡ element_of r
 element_told r n q = element_is n ∙ ap element_of (sym q)
 
-elements_bytes : all (λ (e : ℕ). ltb e 256) elements ≡ true
-unfolding all elements
-elements_bytes = refl
-
 elements_long : length elements ≡ 104
 unfolding elements
 elements_long = refl
-
-pub element_byte : (r : ℕ) → r < 104 → get_or elements r 0 < 256
-element_byte r h = ltb-true (get_or elements r 0) 256 (all_at (λ (e : ℕ). ltb e 256) 0 elements r elements_bytes (omega (arith, elements_long)))
 
 pub element_none : (r : ℕ) → 104 ≤ r → 0 ≡ element_of r
 element_none r h = sym (get_or-eq_default elements 0 (omega (arith, elements_long))) ∙ element_is r
@@ -100,6 +96,12 @@ module _ (e : ℕ) (l : 1 ≤ e) (h : e ≤ 103) where
 
   pub rank_high : rank_of e ≤ 103
   rank_high = omega (arith, rank_entry, leb-true (get_or ranks e 0) 103 (and_parts (leb 1 (get_or ranks e 0)) (leb (get_or ranks e 0) 103) behind.1).1)
+
+-- looked up in the table
+pub looked_up : (r n : ℕ) (o : Option (Bor ℕ)) → IsItemAt elements r o → MatchOption o (n ≡ 0) (λ x. n ≡ x.now) → n ≡ element_of r
+unfolding elements
+looked_up r n None i m = m ∙ element_none r (ltb-false r 104 (sym i.0))
+looked_up r n (Some x) i m = m ∙ i.3.1 0 ∙ element_is r
 
 -- told by a number of the table
 pub rank_told : (e n : ℕ) → 1 ≤ n → n ≤ 103 → e ≡ n → (get_or ranks n 0 ≤ 103) × (get_or ranks n 0 ≡ rank_of e)

@@ -17,7 +17,8 @@ use Rattle.lists.proofs.ListLaws.{any_nil, any_cons, any_parts}
 use Rattle.lists.proofs.PartLaws.{map_take, map_drop}
 use Rattle.lists.proofs.LexLaws.{Sides, less, equal, greater, sides, ltb_strict}
 use Rattle.lists.proofs.SortLaws.{any_perm, ascends_nil, insert_place, insert_perm, insert_ascends}
-use Rattle.tally.specs.Gathering.{Tallied, keyed, sum_of, Shows}
+use Rattle.tally.specs.declared.entries.Entry.{Entry as Tallied}
+use Rattle.tally.specs.Gathering.{keyed, sum_of, Shows}
 use Rattle.lists.proofs.IndexLaws.{any_index, any_nowhere, span_index, ascends_at, map_length, map_at, map_on}
 
 -- SUMS, clause by clause
@@ -41,10 +42,6 @@ module _ (k : ℕ) where
 -- NO ENTRIES, and the same entries otherwise
 pub shows_none : Shows [] [] []
 shows_none = record { up = ascends_nil ltb; there = λ k. any_nil (eqb k) ∙ sym (any_nil (keyed k)); sums = refl }
-
-pub shows_same : (es fs : List Tallied) (ks cs : List ℕ) → ((k : ℕ) → any (keyed k) es ≡ any (keyed k) fs) → ((k : ℕ) → sum_of k es ≡ sum_of k fs) → Shows es ks cs → Shows fs ks cs
-shows_same es fs ks cs a b s =
-    record { up = s.up; there = λ k. s.there k ∙ a k; sums = s.sums ∙ map_on (λ (k : ℕ). sum_of k es) (λ (k : ℕ). sum_of k fs) 0 ks (λ i h. b (get_or ks i 0)) }
 
 -- WHAT STANDS AT AN INDEX
 module _ (es : List Tallied) (ks cs : List ℕ) (s : Shows es ks cs) where

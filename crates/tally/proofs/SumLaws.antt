@@ -17,7 +17,8 @@ use Rattle.lists.proofs.LexLaws.{Sides, less, equal, greater, sides}
 use Rattle.format.specs.Structure.{isotope_of, Atom, Entry, entries_of, group_of}
 use Rattle.format.proofs.TotalLaws.{entries_bare, entries_implied, entries_append}
 use Rattle.tally.specs.Ranks.{key_of}
-use Rattle.tally.specs.Gathering.{in_group, Tallied, tallied, keyed, sum_of, atoms_in, atom_in}
+use Rattle.tally.specs.declared.entries.Entry.{Entry as Tallied}
+use Rattle.tally.specs.Gathering.{in_group, tallied, keyed, sum_of, atoms_in, atom_in}
 use Rattle.tally.proofs.RankLaws.{hydrogen_rank}
 use Rattle.tally.proofs.AtomLaws.{atoms_long, atoms_snoc}
 use Rattle.tally.proofs.ShowLaws.{sum_nil, sum_hit, sum_miss}
@@ -53,14 +54,14 @@ module _ (k : ℕ) where
   unfolding entries_of
   sum_atom a = go a.hydrogens refl
     where
-      none : (b : Bool) → share b 0 ≡ 0
-      none true = refl
-      none false = refl
+      None : (b : Bool) → share b 0 ≡ 0
+      None true = refl
+      None false = refl
 
       go : (n : ℕ) → a.hydrogens ≡ n → sum_of k (plain (entries_of (a ∷ []))) ≡ share (eqb k (key_of a.kind)) 1 + share (eqb k (key_of (isotope_of 1 0))) a.hydrogens
       go zero e =
           ap (λ (es : List Entry). sum_of k (plain es)) (entries_bare a [] e) ∙ sum_cons (tallied (key_of a.kind) 1) []
-          ∙ omega (arith, sum_nil k, ap (share (eqb k (key_of (isotope_of 1 0)))) e, none (eqb k (key_of (isotope_of 1 0))))
+          ∙ omega (arith, sum_nil k, ap (share (eqb k (key_of (isotope_of 1 0)))) e, None (eqb k (key_of (isotope_of 1 0))))
       go (suc n) e =
           ap (λ (es : List Entry). sum_of k (plain es)) (entries_implied a [] n e) ∙ sum_cons (tallied (key_of a.kind) 1) (tallied (key_of (isotope_of 1 0)) (suc n) ∷ [])
           ∙ omega (arith, sum_cons (tallied (key_of (isotope_of 1 0)) (suc n)) [], sum_nil k, ap (share (eqb k (key_of (isotope_of 1 0)))) e)

@@ -1,6 +1,6 @@
 -- The elements in the formula's order, and the number that an element with its mass has: document 01, "The one written form": "C, H, then by symbol, a shorter
 -- symbol before its extension; no mass before ascending masses". Assumes nothing.
-use Rattle.std.specs.Prelude.{ℕ, zero, suc, ◌+◌, ◌*◌, Bool, true, false, ◌&&◌, List, [], ◌∷◌, get_or, eqb, leb}
+use Rattle.std.specs.Prelude.{ℕ, zero, suc, ◌+◌, ◌*◌, Bool, true, false, ◌&&◌, Option, Some, None, List, [], ◌∷◌, get_or, eqb, leb}
 use Rattle.lists.specs.Order.{lex_before, sort}
 use Rattle.format.specs.Bytes.{within}
 use Rattle.format.specs.Structure.{Isotope}
@@ -38,6 +38,6 @@ key_of i = 512 * rank_of i.element + i.mass
 unfoldable pub fine : Isotope → Bool
 fine i = within 1 103 i.element && leb i.mass 300
 
--- the key of an element and a mass, 0 where no atom can have them
-unfoldable pub key_or : Isotope → ℕ
-key_or i = elim (fine i) [ true ↦ key_of i | false ↦ 0 ]
+-- the key of an element and a mass, none where no atom can have them
+unfoldable pub key_if : Isotope → Option ℕ
+key_if i = elim (fine i) [ true ↦ Some (key_of i) | false ↦ None ]

@@ -1,9 +1,10 @@
 -- The formula's entries taken one by one from what is left: the answer for the rest of the value is the answer for the whole, and the answer for the whole is
 -- whether formula and atoms agree. Serves document 01, "At END, for every element and mass, the formula's total .. equals the atoms listed". Assumes nothing.
-use Prim.Native.Nat.{ℕ, ◌+◌, ◌≤◌, ◌<◌}
+use Prim.Native.Nat.{ℕ, ◌+◌, ◌-◌, ◌≤◌, ◌<◌}
 use mathlib.Core.Path.{◌≡◌, refl, sym, ap, ◌∙◌, subst}
 use mathlib.Core.Bool.{Bool, true, false, ◌&&◌}
-use mathlib.Core.Option.{Option, none, some}
+use Rattle.std.specs.declared.option.Option.{Option}
+use Rattle.std.specs.declared.option.Option.TheVariants.{None, Some}
 use mathlib.Core.List.{List, [], ◌∷◌}
 use native.Mathlib.Numerals.{add-one}
 use native.Mathlib.Omega.{arith}
@@ -18,27 +19,21 @@ use Rattle.format.specs.Rows.{Sym}
 use Rattle.format.specs.Formula.{Counted as Told, counted, between, finish, join, frun, formula_shape}
 use Rattle.format.specs.Structure.{Isotope, isotope, Atom, atom_ok, Entry, entry, entries_of, total, agree}
 use Rattle.format.proofs.ByteLaws.{within_true, within_is}
-use Rattle.format.proofs.FormulaLaws.{run_at_end, formula_is}
+use Rattle.format.proofs.FormulaLaws.{run_at_end, formula_is, join_nil}
 use Rattle.format.proofs.TotalLaws.{total_nil, total_append, agree_every, every_agree, entries_append}
-use Rattle.symbols.specs.ShownSymbols.{sym_of_mark}
-use Rattle.symbols.specs.declared.Mark.{Mark}
-use Rattle.formula.specs.Machine.{state_shown, close_shown, Sized, Stepped}
+use Rattle.formula.specs.Machine.{state_shown, entry_shown, told_shown, Sized, Stepped}
 use Rattle.formula.specs.Entries.{EntryIs}
 use Rattle.formula.specs.declared.State.{State}
 use Rattle.formula.specs.declared.State.TheVariants.{Between}
 use Rattle.formula.specs.declared.Move.{Move as Step}
-use Rattle.formula.specs.declared.Move.TheVariants.{Still, Tells}
-use Rattle.formula.specs.declared.Close.{Close}
-use Rattle.formula.specs.declared.Close.TheVariants.{Unshaped, Nothing, Last}
-use Rattle.formula.proofs.RunLaws.{still_run, still_sized, tells_run, tells_sized}
+use Rattle.formula.specs.declared.entry.Entry.{Entry as Read}
+use Rattle.std.specs.Bool.{then_some}
+use Rattle.std.specs.Option.{option_map}
+use Rattle.formula.proofs.RunLaws.{step_run}
 use Rattle.sorted.specs.Regions.{kinds_region}
 use Rattle.gather.specs.Progress.{entries_from, entry_fine}
 use Rattle.totals.specs.Left.{Takes, Took, Counts, Tallied, Says, Answers, Answered}
-use Rattle.totals.specs.Taking.{TookByte, Owing, TookLead}
-use Rattle.totals.specs.declared.Taken.{Taken}
-use Rattle.totals.specs.declared.Taken.TheVariants.{On, Short}
-use Rattle.totals.specs.declared.Lead.{Lead}
-use Rattle.totals.specs.declared.Lead.TheVariants as L
+use Rattle.totals.specs.Taking.{TookTold, TookByte, Owing, TookLead}
 use Rattle.totals.proofs.LeftLaws.{total_own}
 use Rattle.totals.proofs.TallyLaws.{atom_total}
 
@@ -54,88 +49,80 @@ pub says_short : (left : Isotope → ℕ) (e : Entry) (es : List Entry) → left
 says_short left e es h = λ g. omega (arith, g e.kind, one_more_lem e.kind e es, total_own e.kind e.count)
 
 -- of an entry that is in its ranges
-abbrev pub TakesFine : (k : ℕ) → (left next : Isotope → ℕ) → Entry → Bool → Type 0
+abbrev TakesFine : (k : ℕ) → (left next : Isotope → ℕ) → Entry → Bool → Type 0
 TakesFine k left next e r = entry_fine k e ≡ true → Took left next e r
-
-takes_as : (k : ℕ) (left next : Isotope → ℕ) (e : Entry) (t u : Bool) → t ≡ u → TakesFine k left next e t → TakesFine k left next e u
-takes_as k left next e t u z f = subst (TakesFine k left next e) z f
 
 -- what is left of a value, from a place
 rest_cons : (s : Bytes) (i : ℕ) → i < length s → drop i s ≡ get_or s i 0 ∷ drop (i + 1) s
 rest_cons s i h = drop-cons s i 0 h ∙ ap (λ (n : ℕ). get_or s i 0 ∷ drop n s) (sym (add-one i))
 
 module _ (k : ℕ) (x : Sym) (n : ℕ) where
-  pub answers_more : (left next : Isotope → ℕ) → TakesFine k left next (entry (isotope k x) n) true → (o : Option (List Told)) (r : Bool) → Answers k next o r → Answers k left (join (counted x n ∷ []) o) r
-  answers_more left next t none r f = f
-  answers_more left next t (some cs) r f = λ fine.
+  answers_more : (left next : Isotope → ℕ) → TakesFine k left next (entry (isotope k x) n) true → (o : Option (List Told)) (r : Bool) → Answers k next o r → Answers k left (join (counted x n ∷ []) o) r
+  answers_more left next t None r f = f
+  answers_more left next t (Some cs) r f = λ fine.
       let e : Entry = entry (isotope k x) n in
-      let es : List Entry = entries_from k (some cs) in
+      let es : List Entry = entries_from k (Some cs) in
       let p : (entry_fine k e ≡ true) × (all (entry_fine k) es ≡ true) = all_parts (entry_fine k) e es fine in
       says_more left next e es (t p.0).is r (f p.1)
 
-  pub answers_short : (left next : Isotope → ℕ) → TakesFine k left next (entry (isotope k x) n) false → (o : Option (List Told)) → Answers k left (join (counted x n ∷ []) o) false
-  answers_short left next t none = refl
-  answers_short left next t (some cs) = λ fine.
+  answers_short : (left next : Isotope → ℕ) → TakesFine k left next (entry (isotope k x) n) false → (o : Option (List Told)) → Answers k left (join (counted x n ∷ []) o) false
+  answers_short left next t None = refl
+  answers_short left next t (Some cs) = λ fine.
       let e : Entry = entry (isotope k x) n in
-      let es : List Entry = entries_from k (some cs) in
+      let es : List Entry = entries_from k (Some cs) in
       says_short left e es (t (all_parts (entry_fine k) e es fine).0).is
 
   -- a known element is one that can be looked up
-  pub fine_element : k ≤ 103 → entry_fine k (entry (isotope k x) n) ≡ true → (isotope k x).element ≤ 103
+  fine_element : k ≤ 103 → entry_fine k (entry (isotope k x) n) ≡ true → (isotope k x).element ≤ 103
   fine_element h f =
       let i : Isotope = isotope k x in
       let p : (within 1 k i.element ≡ true) × ((leb i.mass 300 && within 1 9999 n) ≡ true) = and_parts (within 1 k i.element) (leb i.mass 300 && within 1 9999 n) f in
       omega (arith, (within_true 1 k i.element p.0).1)
 
-  pub entry_taken : (left next : Isotope → ℕ) (i : Isotope) (r : Bool) → k ≤ 103 → i ≡ isotope k x → (i.element ≤ 103 → Took left next (entry i n) r) → TakesFine k left next (entry (isotope k x) n) r
+  entry_taken : (left next : Isotope → ℕ) (i : Isotope) (r : Bool) → k ≤ 103 → i ≡ isotope k x → (i.element ≤ 103 → Took left next (entry i n) r) → TakesFine k left next (entry (isotope k x) n) r
   entry_taken left next i r h e t fine = rw (← e) (t (rw e (fine_element h fine)))
 
+  pub entry_told : (left next : Isotope → ℕ) (i : Isotope) (r : Bool) → k ≤ 103 → i ≡ isotope k x → (i.element ≤ 103 → Took left next (entry i n) r) → TookTold k left next (counted x n ∷ []) r
+  entry_told left next i true h e t = record { is = λ o r f. answers_more left next (entry_taken left next i true h e t) o r f }
+  entry_told left next i false h e t = record { is = λ o. answers_short left next (entry_taken left next i false h e t) o }
+
+pub none_told : (k : ℕ) (left : Isotope → ℕ) → TookTold k left left [] true
+none_told k left = record { is = λ o r f. rw (join_nil o) f }
+
 -- A BYTE, by what the code's step answered
-module _ (k b : ℕ) (left : Isotope → ℕ) (q : State) (m : Step) (h : Sized q → Stepped (state_shown q) b m) (fine : Sized q) where
-  pub byte_still : (to : State) → m ≡ Still to → TookByte k left left q b (On to)
-  byte_still to e = record { is = (still_sized q b m h fine to e, λ s r f. rw (still_run q b m h fine to e s) f) }
-
-  module _ (x : Mark) (n : ℕ) (to : State) (e : m ≡ Tells x n to) (next : Isotope → ℕ) (t : Bool) (taken : TakesFine k left next (entry (isotope k (sym_of_mark x)) n) t) where
-    pub byte_taken : t ≡ true → TookByte k left next q b (On to)
-    byte_taken z =
-        record { is = (tells_sized q b m h fine x n to e, λ s r f. rw (tells_run q b m h fine x n to e s) (answers_more k (sym_of_mark x) n left next (takes_as k left next (entry (isotope k (sym_of_mark x)) n) t true z taken) (frun (state_shown to) s) r f)) }
-
-    pub byte_short : t ≡ false → TookByte k left next q b Short
-    byte_short z =
-        record { is = λ s. rw (tells_run q b m h fine x n to e s) (answers_short k (sym_of_mark x) n left next (takes_as k left next (entry (isotope k (sym_of_mark x)) n) t false z taken) (frun (state_shown to) s)) }
+pub byte_took : (k b : ℕ) (left next : Isotope → ℕ) (q : State) (m : Step) (t : Bool) → (Sized q → Stepped (state_shown q) b m) → TookTold k left next (told_shown m.told) t → Sized q → TookByte k left next q b (then_some t m.state)
+byte_took k b left next q m true h u fine = record { is = ((h fine).sized, λ s r f. rw (step_run q b m (h fine) s) (u.is (frun (state_shown m.state) s) r f)) }
+byte_took k b left next q m false h u fine = record { is = λ s. rw (step_run q b m (h fine) s) (u.is (frun (state_shown m.state) s)) }
 
 -- THE END, by what the code's end answered
-module _ (k : ℕ) (left : Isotope → ℕ) (q : State) (o : Close) (is : close_shown o ≡ finish (state_shown q)) where
-  ended : (p : Close) → o ≡ p → (r : Bool) → Answers k left (close_shown p) r → Answered k left (finish (state_shown q)) r
-  ended p e r f = subst (λ (x : Option (List Told)). Answered k left x r) (ap close_shown (sym e) ∙ is) (record { is = f })
+module _ (k : ℕ) (left : Isotope → ℕ) (q : State) (o : Option (Option Read)) (is : option_map told_shown o ≡ finish (state_shown q)) where
+  ended : (p : Option (Option Read)) → o ≡ p → (r : Bool) → Answers k left (option_map told_shown p) r → Answered k left (finish (state_shown q)) r
+  ended p e r f = subst (λ (x : Option (List Told)). Answered k left x r) (ap (option_map told_shown) (sym e) ∙ is) (record { is = f })
 
-  pub end_unshaped : o ≡ Unshaped → Answered k left (finish (state_shown q)) false
-  end_unshaped e = ended Unshaped e false refl
+  pub end_shapeless : o ≡ None → Answered k left (finish (state_shown q)) false
+  end_shapeless e = ended None e false refl
 
-  pub end_nothing : o ≡ Nothing → (r : Bool) → Says r (Counts left []) → Answered k left (finish (state_shown q)) r
-  end_nothing e r f = ended Nothing e r (λ fine. f)
+  module _ (told : Option Read) (e : o ≡ Some told) (next : Isotope → ℕ) where
+    whole : join (told_shown told) (Some []) ≡ Some (told_shown told)
+    whole = go told
+      where
+        go : (p : Option Read) → join (told_shown p) (Some []) ≡ Some (told_shown p)
+        go None = refl
+        go (Some x) = refl
 
-  module _ (x : Mark) (n : ℕ) (e : o ≡ Last x n) (next : Isotope → ℕ) (t : Bool) (taken : TakesFine k left next (entry (isotope k (sym_of_mark x)) n) t) where
-    pub end_taken : t ≡ true → (r : Bool) → Says r (Counts next []) → Answered k left (finish (state_shown q)) r
-    end_taken z r f = ended (Last x n) e r (answers_more k (sym_of_mark x) n left next (takes_as k left next (entry (isotope k (sym_of_mark x)) n) t true z taken) (some []) r (λ fine. f))
+    pub end_taken : TookTold k left next (told_shown told) true → (r : Bool) → Says r (Counts next []) → Answered k left (finish (state_shown q)) r
+    end_taken u r f = ended (Some told) e r (subst (λ (x : Option (List Told)). Answers k left x r) whole (u.is (Some []) r (λ fine. f)))
 
-    pub end_short : t ≡ false → Answered k left (finish (state_shown q)) false
-    end_short z = ended (Last x n) e false (answers_short k (sym_of_mark x) n left next (takes_as k left next (entry (isotope k (sym_of_mark x)) n) t false z taken) (some []))
+    pub end_short : TookTold k left next (told_shown told) false → Answered k left (finish (state_shown q)) false
+    end_short u = ended (Some told) e false (subst (λ (x : Option (List Told)). Answers k left x false) whole (u.is (Some [])))
 
 -- THE WHOLE VALUE, from a place on
 module _ (k : ℕ) (old left next : Isotope → ℕ) (whole : Option (List Told)) (s : Bytes) (q : State) (i : ℕ) (g : Owing k old left whole s q i) where
-  pub owing_goes : i < length s → (o : Taken) (to : State) → o ≡ On to → TookByte k left next q (get_or s i 0) o → Owing k old next whole s to (i + 1)
-  owing_goes h o to e t =
-      let u : TookByte k left next q (get_or s i 0) (On to) = subst (TookByte k left next q (get_or s i 0)) e t in
-      record { is = λ r f. g.is r (rw (rest_cons s i h) (u.is.1 (drop (i + 1) s) r f)) }
+  pub owing_goes : i < length s → (to : State) → TookByte k left next q (get_or s i 0) (Some to) → Owing k old next whole s to (i + 1)
+  owing_goes h to u = record { is = λ r f. g.is r (rw (rest_cons s i h) (u.is.1 (drop (i + 1) s) r f)) }
 
-  pub owing_sized : (o : Taken) (to : State) → o ≡ On to → TookByte k left next q (get_or s i 0) o → Sized to
-  owing_sized o to e t = let u : TookByte k left next q (get_or s i 0) (On to) = subst (TookByte k left next q (get_or s i 0)) e t in u.is.0
-
-  pub owing_short : i < length s → (o : Taken) → o ≡ Short → TookByte k left next q (get_or s i 0) o → Answered k old whole false
-  owing_short h o e t =
-      let u : TookByte k left next q (get_or s i 0) Short = subst (TookByte k left next q (get_or s i 0)) e t in
-      record { is = g.is false (rw (rest_cons s i h) (u.is (drop (i + 1) s))) }
+  pub owing_short : i < length s → TookByte k left next q (get_or s i 0) None → Answered k old whole false
+  owing_short h u = record { is = g.is false (rw (rest_cons s i h) (u.is (drop (i + 1) s))) }
 
   pub owing_ends : length s ≤ i → (r : Bool) → Answered k left (finish (state_shown q)) r → Answered k old whole r
   owing_ends h r f = record { is = g.is r (rw (run_at_end (state_shown q) s i h) f.is) }
@@ -144,24 +131,12 @@ module _ (k : ℕ) (old left next : Isotope → ℕ) (whole : Option (List Told)
 pub lead_starts : (k : ℕ) (left : Isotope → ℕ) (s : Bytes) → Owing k left left (formula_shape s) s (Between false) 0
 lead_starts k left s = record { is = λ r f. rw (formula_is s) f }
 
-module _ (k : ℕ) (old left next : Isotope → ℕ) (s : Bytes) (begun : Bool) (at : ℕ) (g : Owing k old left (formula_shape s) s (Between begun) at) (x : Mark) (n to : ℕ) (h : EntryIs s at x n to) (t : Bool)
-    (taken : TakesFine k left next (entry (isotope k (sym_of_mark x)) n) t) where
-  pub lead_goes : t ≡ true → Owing k old next (formula_shape s) s (Between true) to
-  lead_goes z = record {
-    is = λ r f. g.is r (rw (h.is begun) (answers_more k (sym_of_mark x) n left next (takes_as k left next (entry (isotope k (sym_of_mark x)) n) t true z taken) (frun (between true) (drop to s)) r f));
-  }
+module _ (k : ℕ) (old left next : Isotope → ℕ) (s : Bytes) (begun : Bool) (at : ℕ) (g : Owing k old left (formula_shape s) s (Between begun) at) (x : Read) (to : ℕ) (h : EntryIs s at x to) where
+  pub lead_goes : TookTold k left next (entry_shown x ∷ []) true → Owing k old next (formula_shape s) s (Between true) to
+  lead_goes u = record { is = λ r f. g.is r (rw (h.is begun) (u.is (frun (between true) (drop to s)) r f)) }
 
-  pub lead_short : t ≡ false → TookLead k old next s L.Short
-  lead_short z =
-      record { is = g.is false (rw (h.is begun) (answers_short k (sym_of_mark x) n left next (takes_as k left next (entry (isotope k (sym_of_mark x)) n) t false z taken) (frun (between true) (drop to s)))) }
-
--- the answer for what stands behind them is the answer for the whole
-module _ (k : ℕ) (old left : Isotope → ℕ) (s : Bytes) (r : Lead) (h : TookLead k old left s r) where
-  pub lead_answers : (begun : Bool) (at : ℕ) → r ≡ L.To begun at → (b : Bool) → Answered k left (frun (between begun) (drop at s)) b → Answered k old (formula_shape s) b
-  lead_answers begun at e b f = let u : TookLead k old left s (L.To begun at) = subst (TookLead k old left s) e h in record { is = u.is.is b f.is }
-
-  pub lead_failed : r ≡ L.Short → Answered k old (formula_shape s) false
-  lead_failed e = let u : TookLead k old left s L.Short = subst (TookLead k old left s) e h in record { is = u.is }
+  pub lead_short : TookTold k left next (entry_shown x ∷ []) false → TookLead k old next s None
+  lead_short u = record { is = g.is false (rw (h.is begun) (u.is (frun (between true) (drop to s)))) }
 
 -- AGREEING: some atoms are listed, so that a value without shape does not agree
 pub none_agrees : (listed : List Atom) → 0 < length listed → agree [] (entries_of listed) ≡ false
@@ -178,10 +153,10 @@ none_agrees (a ∷ rest) h = never (agree [] (entries_of (a ∷ rest))) (λ e.
 
 pub answers_agree : (k : ℕ) (left : Isotope → ℕ) (listed : List Atom) → 0 < length listed → Counts left (entries_of listed) → (o : Option (List Told)) (r : Bool) → Answers k left o r →
     all (entry_fine k) (entries_from k o) ≡ true → r ≡ agree (entries_from k o) (entries_of listed)
-answers_agree k left listed h c none r f fine = f ∙ sym (none_agrees listed h)
-answers_agree k left listed h c (some cs) true f fine = sym (every_agree (entries_from k (some cs)) (entries_of listed) (λ i. sym (f fine i) ∙ c i))
-answers_agree k left listed h c (some cs) false f fine =
-    sym (never (agree (entries_from k (some cs)) (entries_of listed)) (λ e. f fine (λ i. c i ∙ sym (agree_every (entries_from k (some cs)) (entries_of listed) e i))))
+answers_agree k left listed h c None r f fine = f ∙ sym (none_agrees listed h)
+answers_agree k left listed h c (Some cs) true f fine = sym (every_agree (entries_from k (Some cs)) (entries_of listed) (λ i. sym (f fine i) ∙ c i))
+answers_agree k left listed h c (Some cs) false f fine =
+    sym (never (agree (entries_from k (Some cs)) (entries_of listed)) (λ e. f fine (λ i. c i ∙ sym (agree_every (entries_from k (Some cs)) (entries_of listed) e i))))
 
 -- atoms of fewer elements
 pub atoms_wider : (k : ℕ) (listed : List Atom) → k ≤ 103 → all (atom_ok k) listed ≡ true → all (atom_ok 103) listed ≡ true

@@ -10,8 +10,10 @@ use lib.ListN.{length, get_or, set, drop, replicate, drop_of_length-le}
 use lib.Seq.{drop-cons, get_or-set_same, get_or-set_other, set-get_or}
 use lib.Dec.{eqb}
 use borrow.Author.Tests.{eqb-true, eq-eqb, ne_eqb}
+use Rattle.std.specs.Prelude.{bit_or}
+use Rattle.std.proofs.lemmas.Nat.{le_or_l, le_or_r}
 use Rattle.lists.specs.Lists.{share, all}
-use Rattle.lists.proofs.Bools.{torn, and_left_false, and_right_false}
+use Rattle.lists.proofs.Bools.{torn, both_ways, and_parts, and_both, and_left_false, and_right_false}
 use Rattle.lists.proofs.ListLaws.{all_nil, all_parts, all_both, all_step, all_miss, all_end}
 use Rattle.format.specs.Structure.{Isotope, isotope_of, Entry, entry, same_isotope, total}
 use Rattle.format.proofs.TotalLaws.{isotope_is, isotope_same, isotope_refl, total_nil, total_cons}
@@ -119,11 +121,11 @@ heavy_drop i es ms j h k = rw (drop-cons es j 0 h, drop-cons ms j 0 k, add-one j
 
 pub heavy_past : (i : Isotope) (es ms : List ℕ) (j : ℕ) → length ms ≤ j → heavy_of i (drop j es) (drop j ms) ≡ 0
 unfolding heavy_of
-heavy_past i es ms j h = ap (heavy_of i (drop j es)) (drop_of_length-le ms h) ∙ none (drop j es)
+heavy_past i es ms j h = ap (heavy_of i (drop j es)) (drop_of_length-le ms h) ∙ None (drop j es)
   where
-    none : (l : List ℕ) → heavy_of i l [] ≡ 0
-    none [] = refl
-    none (e ∷ l) = refl
+    None : (l : List ℕ) → heavy_of i l [] ≡ 0
+    None [] = refl
+    None (e ∷ l) = refl
 
 -- WRITTEN CELLS: what comes to what is left
 module _ (cs es ms : List ℕ) where
@@ -177,9 +179,6 @@ module _ (cs es ms : List ℕ) where
       let s : heavy_of i (set es j (get_or es j 0)) (set ms j 0) ≡ heavy_of i es (set ms j 0) = ap (λ (l : List ℕ). heavy_of i l (set ms j 0)) (set-get_or es j 0) in
       omega (arith, left_heavy cs es (set ms j 0) i q, left_heavy cs es ms i q, heavy_set i es ms j (get_or es j 0) 0 h k, s, cell_empty i (get_or es j 0) q))
 
-  pub heavy_short : (k : Isotope) (n : ℕ) (next : Isotope → ℕ) → 0 < k.mass → heavy_of k es ms < n → Takes (left_of cs es ms) next (entry k n) false
-  heavy_short k n next p h = omega (arith, left_heavy cs es ms k p)
-
 -- TAKEN one after the other
 pub takes_none : (left : Isotope → ℕ) (k : Isotope) → Takes left left (entry k 0) true
 takes_none left k i = omega (arith, total_none i k)
@@ -208,11 +207,11 @@ and_true : (a : Bool) → (a && true) ≡ a
 and_true true = refl
 and_true false = refl
 
-pub clear_kept : (a : Bool) (n : ℕ) → n ≡ 0 → a ≡ (a && is_zero n)
-clear_kept a n e = sym (ap (λ (b : Bool). a && b) (eq-eqb n 0 e) ∙ and_true a)
-
-pub clear_lost : (a : Bool) (n : ℕ) → (n ≡ 0 → ⊥) → false ≡ (a && is_zero n)
-clear_lost a n e = sym (and_right_false a (is_zero n) (ne_eqb n 0 e))
+pub seen_more : (a b : ℕ) → eqb (bit_or a b) 0 ≡ (eqb a 0 && is_zero b)
+seen_more a b =
+    both_ways (eqb (bit_or a b) 0) (eqb a 0 && is_zero b)
+    (λ e. let z : bit_or a b ≡ 0 = eqb-true _ _ e in and_both (eqb a 0) (is_zero b) (eq-eqb a 0 (omega (arith, le_or_l a b))) (eq-eqb b 0 (omega (arith, le_or_r a b))))
+    (λ e. let p : (eqb a 0 ≡ true) × (eqb b 0 ≡ true) = and_parts (eqb a 0) (eqb b 0) e in rw (eqb-true a 0 p.0, eqb-true b 0 p.1))
 
 module _ (l : List ℕ) (i : ℕ) (a : Bool) where
   pub clear_on : (r : Bool) → i < length l → r ≡ (a && is_zero (get_or l i 0)) → (a && all is_zero (drop i l)) ≡ (r && all is_zero (drop (i + 1) l))

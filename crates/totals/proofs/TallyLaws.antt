@@ -1,13 +1,13 @@
 -- The atoms tallied one by one: what comes to what is left. Serves document 01, "the atoms listed, with implied hydrogens counted as hydrogen without mass".
 -- Assumes nothing.
-use Prim.Native.Nat.{ℕ, zero, suc, ◌+◌, ◌-◌, ◌*◌, ◌≤◌, ◌<◌}
+use Prim.Native.Nat.{ℕ, zero, suc, ◌+◌, ◌-◌, ◌*◌, ◌^◌, ◌≤◌, ◌<◌}
 use mathlib.Core.Path.{◌≡◌, refl, ap, ap₂, ◌∙◌}
 use mathlib.Core.Bool.{true, ◌&&◌}
 use mathlib.Core.List.{List, [], ◌∷◌, ◌++◌}
 use native.Mathlib.Numerals.{add-one}
 use native.Mathlib.Omega.{arith}
 use lib.ListN.{length, get_or, set, take, replicate}
-use lib.Seq.{get_or-set_other, take-suc, length-take-le}
+use lib.Seq.{take-suc, length-take-le}
 use lib.Dec.{leb}
 use borrow.Author.Tests.{leb-true}
 use Rattle.lists.specs.Lists.{all, flat}
@@ -20,16 +20,14 @@ use Rattle.format.specs.Structure.{Isotope, isotope_of, Atom, atom_ok, Entry, en
 use Rattle.format.proofs.ByteLaws.{within_true}
 use Rattle.format.proofs.TotalLaws.{total_nil, total_append, entries_bare, entries_implied, entries_append}
 use Rattle.sorted.specs.Regions.{kind_cells, kinds_region}
-use Rattle.totals.specs.Left.{left_of, Blank, Adds, Tallied}
+use Rattle.totals.specs.Left.{left_of, left_in, Blank, Adds, Tallied}
+use Rattle.totals.specs.declared.left.Left.{Left}
 use Rattle.totals.proofs.LeftLaws.{total_most, total_none, left_light, light_added, left_none}
 
 -- ONE ATOM
-pub atom_light : (cs cs' es ms : List ℕ) (e m : ℕ) → length cs ≡ 104 → m ≡ 0 → (e ≤ 103 → 1 ≤ 15 → get_or cs e 0 ≤ 9999 → cs' ≡ set cs e (get_or cs e 0 + 1)) → e ≤ 103 → get_or cs e 0 ≤ 9999 →
-    Adds (left_of cs es ms) (left_of cs' es ms) (entry (isotope_of e m) 1)
-atom_light cs cs' es ms e m l z f h k = rw (z, f h (omega arith) k) (light_added cs es ms e 1 (omega arith))
-
-pub later_same : (ms : List ℕ) (p m n : ℕ) → p < n → get_or (set ms p m) n 0 ≡ get_or ms n 0
-later_same ms p m n h = get_or-set_other ms p n m 0 (λ q. omega arith)
+pub atom_light : (old next : Left) (e m : ℕ) → m ≡ 0 → (next.elements ≡ old.elements) × (next.masses ≡ old.masses) → (e ≤ 103 → get_or old.counts e 0 + 1 < 2 ^ 32 → next.counts ≡ set old.counts e (get_or old.counts e 0 + 1)) →
+    e ≤ 103 → get_or old.counts e 0 ≤ 9999 → Adds (left_in old) (left_in next) (entry (isotope_of e m) 1)
+atom_light old next e m z k f h l = rw (z, k.0, k.1, f h (omega arith)) (light_added old.counts old.elements old.masses e 1 (omega (arith, old.counts_long)))
 
 -- what an atom's numbers keep to
 pub record Numbers (a : Atom) : Type 0 where
@@ -86,7 +84,7 @@ unfolding entries_of
 tally_starts t cs es ms atoms b d listed l e f = left_none cs es ms b d
 
 module _ (t : List ℕ) (atoms i : ℕ) (cs es ms : List ℕ) (more : i < atoms) (few : atoms ≤ 256) (long : length cs ≡ 104) (empty : get_or ms i 0 ≡ 0) (done : Tallied t atoms i (left_of cs es ms)) where
-  pub tally_goes : (cs' : List ℕ) (next : Isotope → ℕ) → (1 ≤ 103 → get_or t (3 * i + 2) 0 ≤ 15 → get_or cs 1 0 ≤ 9999 → cs' ≡ set cs 1 (get_or cs 1 0 + get_or t (3 * i + 2) 0)) →
+  tally_goes : (cs' : List ℕ) (next : Isotope → ℕ) → (1 ≤ 103 → get_or t (3 * i + 2) 0 ≤ 15 → get_or cs 1 0 ≤ 9999 → cs' ≡ set cs 1 (get_or cs 1 0 + get_or t (3 * i + 2) 0)) →
       (get_or t (3 * i) 0 ≤ 103 → get_or cs' (get_or t (3 * i) 0) 0 ≤ 9999 → get_or ms i 0 ≡ 0 → Adds (left_of cs' es ms) next (entry (isotope_of (get_or t (3 * i) 0) (get_or t (3 * i + 1) 0)) 1)) →
       Tallied t atoms (i + 1) next
   tally_goes cs' next f g listed l e ok k =
@@ -118,5 +116,11 @@ module _ (t : List ℕ) (atoms i : ℕ) (cs es ms : List ℕ) (more : i < atoms)
       let whole : total k (entries_of (take (i + 1) listed)) ≡ total k (entries_of b) + total k (entries_of (a ∷ [])) = ap (λ (r : List Atom). total k (entries_of r)) split ∙ ap (total k) (entries_append b (a ∷ [])) ∙ total_append k (entries_of b) (entries_of (a ∷ [])) in
       omega (arith, itself, kind, number, come k, done listed l e ok k, whole, atom_total k a)
 
-pub tally_ends : (t : List ℕ) (atoms i : ℕ) (left : Isotope → ℕ) → i ≤ atoms → atoms ≤ i → Tallied t atoms i left → Tallied t atoms atoms left
-tally_ends t atoms i left h k g = let q : atoms ≡ i = omega arith in λ listed l e ok. rw q (g listed l e ok)
+module _ (t : List ℕ) (atoms i : ℕ) (old mid next : Left) (more : i < atoms) (few : atoms ≤ 256) (empty : get_or old.masses i 0 ≡ 0) (done : Tallied t atoms i (left_in old)) where
+  pub tally_on : (mid.elements ≡ old.elements) × (mid.masses ≡ old.masses) → (1 ≤ 103 → get_or old.counts 1 0 + get_or t (3 * i + 2) 0 < 2 ^ 32 → mid.counts ≡ set old.counts 1 (get_or old.counts 1 0 + get_or t (3 * i + 2) 0)) →
+      (get_or t (3 * i) 0 ≤ 103 → get_or mid.counts (get_or t (3 * i) 0) 0 ≤ 9999 → get_or mid.masses i 0 ≡ 0 → Adds (left_in mid) (left_in next) (entry (isotope_of (get_or t (3 * i) 0) (get_or t (3 * i + 1) 0)) 1)) →
+      Tallied t atoms (i + 1) (left_in next)
+  tally_on k f g =
+      tally_goes t atoms i old.counts old.elements old.masses more few old.counts_long empty done mid.counts (left_in next)
+      (λ h n l. f h (omega arith))
+      (λ h l z. rw (← k.0, ← k.1) (g h l (ap (λ (ms : List ℕ). get_or ms i 0) k.1 ∙ z)))

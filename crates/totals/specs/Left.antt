@@ -1,11 +1,13 @@
 -- What is left of the atoms while the formula's entries are taken from them: document 01, "At END, for every element and mass, the formula's total over all
 -- fragments equals the atoms listed, with implied hydrogens counted as hydrogen without mass." Assumes nothing.
 use Rattle.std.specs.Prelude.{ℕ, zero, suc, ◌+◌, ◌<◌, ◌≡◌, Bool, true, false, List, [], ◌∷◌, length, get_or, take, eqb}
-use Rattle.std.proofs.Math.Option.{Option, none, some}
+use Rattle.std.specs.declared.option.Option.{Option}
+use Rattle.std.specs.declared.option.Option.TheVariants.{None, Some}
 use Rattle.lists.specs.Lists.{all}
 use Rattle.format.specs.Formula.{Counted as Told}
 use Rattle.format.specs.Structure.{Isotope, isotope_of, Atom, atom_ok, Entry, entry, entries_of, same_isotope, total}
 use Rattle.sorted.specs.Regions.{kinds_region}
+use Rattle.totals.specs.declared.left.Left.{Left}
 use Rattle.gather.specs.Progress.{entries_from, entry_fine}
 
 -- Atoms that have a mass, each in one cell of two lists: how many are of an isotope. A mass of 0 is no atom.
@@ -21,6 +23,9 @@ by_mass (suc m) light heavy = heavy
 
 unfoldable pub left_of : (counts elements masses : List ℕ) → Isotope → ℕ
 left_of counts elements masses i = by_mass i.mass (get_or counts i.element 0) (heavy_of i elements masses)
+
+abbrev pub left_in : Left → Isotope → ℕ
+left_in l = left_of l.counts l.elements l.masses
 
 -- what one cell holds for an isotope
 abbrev pub cell_of : Isotope → (e m : ℕ) → ℕ
@@ -58,8 +63,8 @@ Says false P = P → ⊥
 
 -- whether what is left is what a value's entries count, k elements known: not so where the value has no shape
 abbrev pub Answers : (k : ℕ) → (left : Isotope → ℕ) → Option (List Told) → Bool → Type 0
-Answers k left none r = r ≡ false
-Answers k left (some cs) r = all (entry_fine k) (entries_from k (some cs)) ≡ true → Says r (Counts left (entries_from k (some cs)))
+Answers k left None r = r ≡ false
+Answers k left (Some cs) r = all (entry_fine k) (entries_from k (Some cs)) ≡ true → Says r (Counts left (entries_from k (Some cs)))
 
 pub record Answered (k : ℕ) (left : Isotope → ℕ) (o : Option (List Told)) (r : Bool) : Type 0 where
   pub is : Answers k left o r

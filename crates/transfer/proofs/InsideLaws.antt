@@ -15,8 +15,9 @@ use Rattle.format.specs.Labels.{title_line, end_line}
 use Rattle.format.specs.Walking.{Piece, Mode, outside, in_block, in_stray, close, ended, next, run, Walked, Found, Finished, NotWalked, first_of, walked_as, walk_at, What, a_piece, the_end, a_refusal, WalkResult, walk_result}
 use Rattle.format.proofs.CutLaws.{concat_cut, line_len_le, line_len_pos}
 use Rattle.format.proofs.WalkLaws.{ahead, ahead_end, walk_ahead, run_cons, run_none, first_title, first_other}
-use Rattle.transfer.specs.declared.walks.Walked as declared
-use Rattle.transfer.specs.declared.walks.Walked.TheVariants as W
+use Rattle.std.specs.Prelude.{Option, Some, Result, Ok}
+use Rattle.format.specs.declared.refusal.Refusal.{Refusal}
+use Rattle.transfer.specs.declared.walks.Piece.{Piece as Told}
 use Rattle.transfer.specs.Shown.{shown}
 
 -- a piece that is found ends from a on and up to b
@@ -102,13 +103,6 @@ module _ (s : Bytes) (place : ℕ) where
       by false false l = at (ltb-false 16777216 (length s) l) (ltb place (length s)) refl
 
   -- the same of the code's answer
-  shown_inside : (r k : declared.Walked) → shown r ≡ walk_result (walk_at s place) → r ≡ k → Ends s place (shown k)
-  shown_inside r k h e = subst (Ends s place) (sym h ∙ ap shown e) walk_inside
-
-  pub block_inside : (r : declared.Walked) (from to : ℕ) → shown r ≡ walk_result (walk_at s place) → r ≡ W.Block from to → (place < to) × (to ≤ length s) × (length s ≤ 16777216)
+  pub piece_inside : (r : Result (Option Told) Refusal) (p : Told) → shown r ≡ walk_result (walk_at s place) → r ≡ Ok (Some p) → (place < p.to) × (p.to ≤ length s) × (length s ≤ 16777216)
   unfolding shown
-  block_inside r from to h e = shown_inside r (W.Block from to) h e
-
-  pub stray_inside : (r : declared.Walked) (from to : ℕ) → shown r ≡ walk_result (walk_at s place) → r ≡ W.Stray from to → (place < to) × (to ≤ length s) × (length s ≤ 16777216)
-  unfolding shown
-  stray_inside r from to h e = shown_inside r (W.Stray from to) h e
+  piece_inside r p h e = subst (Ends s place) (sym h ∙ ap shown e) walk_inside

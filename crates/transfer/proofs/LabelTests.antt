@@ -1,31 +1,17 @@
--- A label line and its value, as the code tests them: document 01, "A label line starts with `##` in its first column". Assumes nothing.
-use Prim.Native.Nat.{ℕ, ◌≤◌, ◌<◌}
+-- Where a label line's value starts, as the code comes to it: document 01, "the label runs to the first `=`". Assumes nothing.
+use Prim.Native.Nat.{ℕ}
 use mathlib.Core.Path.{◌≡◌, sym, ap, ◌∙◌}
-use mathlib.Core.Bool.{false}
 use native.Mathlib.Omega.{arith}
-use lib.ListN.{length, get_or, drop_of_length-le}
-use lib.Dec.{eqb}
-use borrow.Author.Tests.{eq-eqb, ne_eqb}
-use Rattle.lists.proofs.Bools.{and_left_false}
-use Rattle.format.specs.Bytes.{Bytes, hash, is_label}
+use lib.ListN.{length, drop_of_length-le}
+use Rattle.format.specs.Bytes.{Bytes}
 use Rattle.format.specs.Walking.{value_of}
-use Rattle.format.proofs.ByteLaws.{label_at, label_at_end}
 use Rattle.labels.specs.declared.LineKind.{LineKind}
 use Rattle.labels.specs.declared.LineKind.TheVariants as K
 use Rattle.labels.specs.ShownLines.{ShowsLine, shown_line}
 use Rattle.transfer.specs.Texts.{ValueAt}
 
 module _ (l : Bytes) where
-  pub label_short : length l < 2 → is_label l ≡ false
-  label_short h = label_at_end l 0 (omega arith)
-
-  pub label_other : 2 ≤ length l → (get_or l 0 0 ≡ 35 → ⊥) → is_label l ≡ false
-  label_other h e = label_at l 0 (omega arith) ∙ and_left_false (hash (get_or l 0 0)) _ (ne_eqb (get_or l 0 0) 35 e)
-
-  pub label_second : 2 ≤ length l → get_or l 0 0 ≡ 35 → is_label l ≡ eqb (get_or l 1 0) 35
-  label_second h e = label_at l 0 (omega arith) ∙ rw (eq-eqb (get_or l 0 0) 35 e)
-
-  -- THE VALUE, from what is known of the line
+  -- from what is known of the line
   abbrev value_from : LineKind → ℕ
   value_from K.Plain = length l
   value_from K.Unparted = length l

@@ -20,9 +20,7 @@ use Rattle.format.proofs.WalkLaws.{plain_no_title}
 use Rattle.fields.specs.declared.Field.{Field}
 use Rattle.fields.specs.NextFields.{field_in}
 use Rattle.fields.specs.Trims.{Trimmed}
-use Rattle.transfer.specs.Skipping.{skipped}
 use Rattle.transfer.specs.Texts.{text_to, TextEnd, ValueAt, title_start, Titled, Named}
-use Rattle.transfer.proofs.SkipLaws.{skip_plain}
 
 -- WHERE A TEXT ENDS: at the first label line
 module _ (l : Bytes) (ls : List Bytes) where
@@ -38,38 +36,12 @@ until_nil : until_label [] ≡ []
 unfolding until_label
 until_nil = refl
 
-pub text_passes : (at : ℕ) (l : Bytes) (ls : List Bytes) → is_label l ≡ false → text_to at (l ∷ ls) ≡ text_to (at + length l) ls
-unfolding text_to
-text_passes at l ls e = omega (arith, ap length (until_plain l ls e), length-append l (until_label ls))
-
 module _ (s : Bytes) (at : ℕ) where
-  pub text_skip : (r : ℕ) → r ≡ at + skipped false true (drop at s) → text_to at (cut (drop at s)) ≡ text_to r (cut (drop r s))
-  text_skip r e = skip_plain text_to text_passes s at r e
-
-  pub text_end : length s ≤ at → text_to at (cut (drop at s)) ≡ at
-  unfolding text_to
-  text_end h =
-      let q : cut (drop at s) ≡ [] = ap cut (drop_of_length-le s h) ∙ cut_nil in
-      omega (arith, ap length (ap until_label q ∙ until_nil))
-
   module _ (e : ℕ) (h : at < length s) (q : e ≡ at + line_len (drop at s)) where
     lines_are : cut (drop at s) ≡ take (e - at) (drop at s) ∷ cut (drop e s)
     lines_are =
         let n : line_len (drop at s) ≡ e - at = omega arith in
         cut_at s at h ∙ ap (λ (k : ℕ). take k (drop at s) ∷ cut (drop (at + line_len (drop at s)) s)) n ∙ ap (λ (k : ℕ). take (e - at) (drop at s) ∷ cut (drop k s)) (sym q)
-
-    pub text_hit : is_label (take (e - at) (drop at s)) ≡ true → text_to at (cut (drop at s)) ≡ at
-    unfolding text_to
-    text_hit f = omega (arith, ap length (ap until_label lines_are ∙ until_label_lem _ _ f))
-
-    pub text_on : is_label (take (e - at) (drop at s)) ≡ false → text_to at (cut (drop at s)) ≡ text_to e (cut (drop e s))
-    text_on f =
-        let k : e - at ≤ length (drop at s) = omega (arith, line_len_le (drop at s)) in
-        let m : at + length (take (e - at) (drop at s)) ≡ e = omega (arith, length-take-le (e - at) (drop at s) k) in
-        ap (text_to at) lines_are ∙ text_passes at (take (e - at) (drop at s)) (cut (drop e s)) f ∙ ap (λ (n : ℕ). text_to n (cut (drop e s))) m
-
-    pub text_goes : is_label (take (e - at) (drop at s)) ≡ false → (n : ℕ) → n ≡ e + skipped false true (drop e s) → text_to at (cut (drop at s)) ≡ text_to n (cut (drop n s))
-    text_goes f n r = text_on f ∙ skip_plain text_to text_passes s e n r
 
 -- a text is the bytes up to where it ends
 until_take : (ls : List Bytes) → until_label ls ≡ take (length (until_label ls)) (concat ls)
@@ -119,47 +91,48 @@ abbrev pub part : (from to : ℕ) → Field
 part a b = record { from = a; to = b }
 
 module _ (b : Bytes) (e : ℕ) (q : e ≡ 0 + line_len (drop 0 b)) where
+  lines_first : 0 < length b → cut b ≡ take e b ∷ cut (drop e b)
+  lines_first h = let z : e - 0 ≡ e = omega arith in lines_are b 0 e h q ∙ ap (λ (n : ℕ). take n b ∷ cut (drop e b)) z
+
   -- "the first line is no TITLE line"
-  pub title_other : title_line (take (e - 0) (drop 0 b)) ≡ false → Titled b (part 0 0)
+  pub title_other : title_line (take e b) ≡ false → Titled b (part 0 0)
   title_other t = by (ltb 0 (length b)) refl
     where
       by : (more : Bool) → ltb 0 (length b) ≡ more → Titled b (part 0 0)
       by true m =
-          let f : cut b ≡ take (e - 0) (drop 0 b) ∷ cut (drop e b) = lines_are b 0 e (ltb-true 0 (length b) m) q in
+          let f : cut b ≡ take e b ∷ cut (drop e b) = lines_first (ltb-true 0 (length b) m) in
           record { is = rw (f, t); start = rw (f, t); order = omega arith; high = omega arith }
       by false m =
           let f : cut b ≡ [] = ap cut (drop_of_length-le b {i = 0} (ltb-false 0 (length b) m)) ∙ cut_nil in
           record { is = rw f; start = rw f; order = omega arith; high = omega arith }
 
-  module _ (t : title_line (take (e - 0) (drop 0 b)) ≡ true) where
+  module _ (t : title_line (take e b) ≡ true) where
     some_line : 0 < length b
     some_line = by b t
       where
-        by : (s : Bytes) → title_line (take (e - 0) s) ≡ true → 0 < length s
-        by [] f = torn (title_line (take (e - 0) [])) f (plain_no_title (take (e - 0) []) (ap is_label (take-nil (e - 0))))
+        by : (s : Bytes) → title_line (take e s) ≡ true → 0 < length s
+        by [] f = torn (title_line (take e [])) f (plain_no_title (take e []) (ap is_label (take-nil e)))
         by (x ∷ s) f = omega arith
 
-    module _ (from to : ℕ) (v : ValueAt (take (e - 0) (drop 0 b)) from) (x : TextEnd b e to) where
+    module _ (from to : ℕ) (v : ValueAt (take e b) from) (x : TextEnd b e to) where
       end_high : e ≤ length b
       end_high = omega (arith, line_len_le b)
 
-      line_size : length (take (e - 0) (drop 0 b)) ≡ e
-      line_size = let z : e - 0 ≡ e = omega arith in ap (λ (n : ℕ). length (take n b)) z ∙ length-take-le e b end_high
+      line_size : length (take e b) ≡ e
+      line_size = length-take-le e b end_high
 
       from_high : from ≤ e
       from_high = omega (arith, v.high, line_size)
 
-      text_is : take (to - from) (drop from b) ≡ value_of (line_of (take (e - 0) (drop 0 b))) ++ until_label (cut (drop e b))
+      text_is : take (to - from) (drop from b) ≡ value_of (line_of (take e b)) ++ until_label (cut (drop e b))
       unfolding text_to
       text_is =
           let m : to - e ≡ length (until_label (cut (drop e b))) = omega (arith, x.is) in
-          let z : e ≡ e - 0 = omega arith in
           let u : take (to - e) (drop e b) ≡ until_label (cut (drop e b)) = ap (λ (i : ℕ). take i (drop e b)) m ∙ text_take (drop e b) in
-          let y : drop from (take e b) ≡ value_of (line_of (take (e - 0) (drop 0 b))) = ap (λ (i : ℕ). drop from (take i b)) z ∙ v.is in
-          slice_join b from e to from_high x.low end_high ∙ ap (λ (r : Bytes). r ++ take (to - e) (drop e b)) y ∙ ap (λ (r : Bytes). value_of (line_of (take (e - 0) (drop 0 b))) ++ r) u
+          slice_join b from e to from_high x.low end_high ∙ ap (λ (r : Bytes). r ++ take (to - e) (drop e b)) v.is ∙ ap (λ (r : Bytes). value_of (line_of (take e b)) ++ r) u
 
-      from_is : from ≡ length (take (e - 0) (drop 0 b)) - length (value_of (line_of (take (e - 0) (drop 0 b))))
-      from_is = omega (arith, v.high, ap length (sym v.is), length-drop from (take (e - 0) (drop 0 b)))
+      from_is : from ≡ length (take e b) - length (value_of (line_of (take e b)))
+      from_is = omega (arith, v.high, ap length (sym v.is), length-drop from (take e b))
 
       module _ (kept : Field) (k : Trimmed (take (to - from) (drop from b)) kept) where
         text_high : length (take (to - from) (drop from b)) ≤ length b - from
@@ -176,7 +149,7 @@ module _ (b : Bytes) (e : ℕ) (q : e ≡ 0 + line_len (drop 0 b)) where
 
         pub title_kept : Titled b (part (from + kept.from) (from + kept.to))
         title_kept =
-            let f : cut b ≡ take (e - 0) (drop 0 b) ∷ cut (drop e b) = lines_are b 0 e some_line q in
+            let f : cut b ≡ take e b ∷ cut (drop e b) = lines_first some_line in
             record {
               is = rw (f, t) (kept_is ∙ ap trim text_is);
               start = rw (f, t) (ap₂ (λ (i j : ℕ). i + j) from_is (k.low ∙ ap lead text_is));

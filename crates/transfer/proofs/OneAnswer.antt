@@ -8,30 +8,17 @@ use Rattle.format.specs.Bytes.{Bytes}
 use Rattle.format.specs.Walking as walking
 use Rattle.format.specs.Walking.{What, a_piece, the_end, a_refusal, WalkResult, walk_result, walk_at}
 use Rattle.fields.specs.declared.Field.{Field}
-use Rattle.transfer.specs.declared.walks.Walked.{Walked}
-use Rattle.transfer.specs.declared.walks.Walked.TheVariants as W
-use Rattle.transfer.specs.Shown.{shown}
+use Rattle.std.specs.Prelude.{Option, Some, None, Result, Ok, Err}
+use Rattle.format.specs.declared.refusal.Refusal.{Refusal}
+use Rattle.format.proofs.RefusalLaws.{number_once}
+use Rattle.transfer.specs.declared.walks.PieceKind.{PieceKind}
+use Rattle.transfer.specs.declared.walks.PieceKind.TheVariants as K
+use Rattle.transfer.specs.declared.walks.Piece.{Piece}
+use Rattle.transfer.specs.Shown.{kind_of, shown}
 use Rattle.transfer.specs.Texts.{Titled}
 use Rattle.transfer.proofs.NameLaws.{part, title_size}
 
--- THE WALK: the answer that says a result
-abbrev answer_by : What → WalkResult → Walked
-answer_by (a_piece walking.block) r = W.Block r.start r.end
-answer_by (a_piece walking.stray) r = W.Stray r.start r.end
-answer_by the_end r = W.Finished
-answer_by a_refusal r = W.Refused r.number
-
-abbrev answer_of : WalkResult → Walked
-answer_of r = answer_by r.what r
-
-back : (r : Walked) → answer_of (shown r) ≡ r
-unfolding shown
-back (W.Block from to) = refl
-back (W.Stray from to) = refl
-back W.Finished = refl
-back (W.Refused n) = refl
-
--- and the definitions' answer
+-- THE WALK: what a result says of the definitions' answer
 abbrev walked_by : What → WalkResult → walking.Walked
 walked_by (a_piece k) r = walking.Found (walking.piece k r.start r.end)
 walked_by the_end r = walking.Finished
@@ -45,11 +32,48 @@ walked_back (walking.Found p) = refl
 walked_back walking.Finished = refl
 walked_back (walking.NotWalked n) = refl
 
+abbrev Walked : Type 0
+Walked = Result (Option Piece) Refusal
+
+-- what tells two kinds of answers apart, and the kind of a piece
+abbrev sort_of : What → ℕ
+sort_of (a_piece k) = 0
+sort_of the_end = 1
+sort_of a_refusal = 2
+
+abbrev kind_in : What → walking.Kind
+kind_in (a_piece k) = k
+kind_in the_end = walking.block
+kind_in a_refusal = walking.block
+
+abbrev told_kind : walking.Kind → PieceKind
+told_kind walking.block = K.Block
+told_kind walking.stray = K.Stray
+
+kind_back : (k : PieceKind) → told_kind (kind_of k) ≡ k
+kind_back K.Block = refl
+kind_back K.Stray = refl
+
+-- answers with one result are equal
+shown_once : (r q : Walked) → shown r ≡ shown q → r ≡ q
+unfolding shown
+shown_once (Ok (Some p)) (Ok (Some q)) e =
+    let k : p.kind ≡ q.kind = sym (kind_back p.kind) ∙ ap (λ (x : WalkResult). told_kind (kind_in x.what)) e ∙ kind_back q.kind in
+    λ i. Ok (Some (record { kind = k i; from = (ap (λ (x : WalkResult). x.start) e) i; to = (ap (λ (x : WalkResult). x.end) e) i }))
+shown_once (Ok (Some p)) (Ok None) e = absurd (omega (arith, ap (λ (x : WalkResult). sort_of x.what) e))
+shown_once (Ok (Some p)) (Err y) e = absurd (omega (arith, ap (λ (x : WalkResult). sort_of x.what) e))
+shown_once (Ok None) (Ok (Some q)) e = absurd (omega (arith, ap (λ (x : WalkResult). sort_of x.what) e))
+shown_once (Ok None) (Ok None) e = refl
+shown_once (Ok None) (Err y) e = absurd (omega (arith, ap (λ (x : WalkResult). sort_of x.what) e))
+shown_once (Err x) (Ok (Some q)) e = absurd (omega (arith, ap (λ (x : WalkResult). sort_of x.what) e))
+shown_once (Err x) (Ok None) e = absurd (omega (arith, ap (λ (x : WalkResult). sort_of x.what) e))
+shown_once (Err x) (Err y) e = ap (λ (z : Refusal). Err z) (number_once x y (ap (λ (r : WalkResult). r.number) e))
+
 module _ (s : Bytes) (place : ℕ) (r : Walked) (h : shown r ≡ walk_result (walk_at s place)) where
   pub one_answer : (q : Walked) → shown q ≡ walk_result (walk_at s place) → r ≡ q
-  one_answer q k = sym (back r) ∙ ap answer_of (h ∙ sym k) ∙ back q
+  one_answer q k = shown_once r q (h ∙ sym k)
 
-  -- the definitions' answer, from the variant that the code's is
+  -- the definitions' answer, from what the code's is
   pub walk_told : (k : Walked) → r ≡ k → walked_of (shown k) ≡ walk_at s place
   walk_told k e = ap (λ (x : Walked). walked_of (shown x)) (sym e) ∙ ap walked_of h ∙ walked_back (walk_at s place)
 

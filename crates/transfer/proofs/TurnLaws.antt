@@ -1,7 +1,7 @@
 -- A line whose label starts with a letter that neither TITLE nor END starts with is neither of the two, nor is a line that does not start with `#`. Serves
 -- document 01, "Walking a transfer file". Assumes nothing.
 use Prim.Native.Nat.{ℕ, ◌-◌, ◌≤◌}
-use mathlib.Core.Path.{◌≡◌, refl, sym, ap, ◌∙◌}
+use mathlib.Core.Path.{◌≡◌, refl}
 use mathlib.Core.Bool.{Bool, true, false, ◌&&◌, ◌||◌, not}
 use mathlib.Core.List.{List, [], ◌∷◌}
 use native.Mathlib.Omega.{arith}
@@ -17,7 +17,7 @@ use Rattle.format.specs.Rows.{upper, lower}
 use Rattle.format.proofs.ByteLaws.{within_true, normal_keep, raise_lower, raise_other}
 use Rattle.format.proofs.CutLaws.{len_hit, len_miss}
 use Rattle.format.proofs.WalkLaws.{plain_no_title, plain_no_end}
-use Rattle.transfer.specs.Skipping.{foreign, starts}
+use Rattle.transfer.specs.Skipping.{foreign, turning, starts}
 
 hash_no_feed : (b : ℕ) → hash b ≡ true → eqb b 10 ≡ false
 hash_no_feed b e = ne_eqb b 10 (λ x. omega (arith, x, eqb-true b 35 e))
@@ -26,10 +26,10 @@ feed_no_hash : (b : ℕ) → eqb b 10 ≡ true → hash b ≡ false
 feed_no_hash b e = ne_eqb b 35 (λ x. omega (arith, x, eqb-true b 10 e))
 
 -- WHAT IS LOOKED UP passes a test that each label passes which has another name
-module _ (p : Label → Bool) (n : Bytes) (none : p (label "" Skipped 0 0 10) ≡ true) where
+module _ (p : Label → Bool) (n : Bytes) (None : p (label "" Skipped 0 0 10) ≡ true) where
   lookup_other : (xs : List Label) → all (λ x. p x || not (same n x.name)) xs ≡ true → p (lookup n xs) ≡ true
   unfolding lookup all
-  lookup_other [] h = none
+  lookup_other [] h = None
   lookup_other (x ∷ xs) h = by (p x) (same n x.name) refl refl h (lookup_other xs)
     where
       by : (a b : Bool) → p x ≡ a → same n x.name ≡ b → ((a || not b) && all (λ y. p y || not (same n y.name)) xs) ≡ true
@@ -46,45 +46,13 @@ pub record Foreign (c : ℕ) : Type 0 where
   pub title : eqb (raise c) 84 ≡ false
   pub end : eqb (raise c) 69 ≡ false
 
-pub zero_no_letter : foreign 0 ≡ false
-unfolding foreign within
-zero_no_letter = refl
+turning_zero : turning 0 ≡ true
+unfolding turning foreign within
+turning_zero = refl
 
--- as the code tests it: one of the four letters is not foreign, any other letter is
-own : (b k : ℕ) → foreign k ≡ false → b ≡ k → false ≡ foreign b
-own b k f e = sym (ap foreign e ∙ f)
-
-four_own : (foreign 84 ≡ false) × (foreign 116 ≡ false) × (foreign 69 ≡ false) × (foreign 101 ≡ false)
-unfolding foreign any within
-four_own = (refl, refl, refl, refl)
-
-module _ (b : ℕ) where
-  pub own_t : b ≡ 84 → false ≡ foreign b
-  own_t = own b 84 four_own.0
-
-  pub own_lower_t : b ≡ 116 → false ≡ foreign b
-  own_lower_t = own b 116 four_own.1
-
-  pub own_e : b ≡ 69 → false ≡ foreign b
-  own_e = own b 69 four_own.2
-
-  pub own_lower_e : b ≡ 101 → false ≡ foreign b
-  own_lower_e = own b 101 four_own.3
-
--- a letter of either case
-pub foreign_upper : (b : ℕ) → upper b ≡ true → (upper b || lower b) ≡ foreign b → true ≡ foreign b
-foreign_upper b u e = rw u at e
-
-pub foreign_lower : (b : ℕ) (r : Bool) → upper b ≡ false → r ≡ lower b → (upper b || lower b) ≡ foreign b → r ≡ foreign b
-foreign_lower b r u l e = l ∙ (rw u at e)
-
-pub foreign_rest : (b : ℕ) → (b ≡ 84 → ⊥) → (b ≡ 116 → ⊥) → (b ≡ 69 → ⊥) → (b ≡ 101 → ⊥) → (upper b || lower b) ≡ foreign b
-unfolding foreign any
-foreign_rest b h i j k = by (upper b || lower b) (rw (ne_eqb b 84 h, ne_eqb b 116 i, ne_eqb b 69 j, ne_eqb b 101 k))
-  where
-    by : (t : Bool) → is_in b (84 ∷ 116 ∷ 69 ∷ 101 ∷ []) ≡ false → t ≡ (t && not (is_in b (84 ∷ 116 ∷ 69 ∷ 101 ∷ [])))
-    by true e = sym (ap not e)
-    by false e = refl
+turning_not : (c : ℕ) → turning c ≡ false → foreign c ≡ true
+unfolding turning
+turning_not c e = not-false (foreign c) e
 
 -- a letter, and none of the four
 no_four : (c : ℕ) → not (is_in c (84 ∷ 116 ∷ 69 ∷ 101 ∷ [])) ≡ true → (c ≡ 84 → ⊥) × (c ≡ 116 → ⊥) × (c ≡ 69 → ⊥) × (c ≡ 101 → ⊥)
@@ -175,16 +143,16 @@ label_neither b x c w f = by (is_label (b ∷ x ∷ c ∷ w)) refl
     by false e = plain_neither (b ∷ x ∷ c ∷ w) e
 
 -- and the first line of bytes that are not looked at
-pub no_turn : (s : Bytes) → starts true s ≡ false → Neither (take (line_len s) s)
+pub no_turn : (s : Bytes) → starts turning s ≡ false → Neither (take (line_len s) s)
 unfolding starts
 no_turn [] e = plain_neither _ (no_label [] refl)
 no_turn (b ∷ s) e = by (hash b) refl s e
   where
-    by : (h : Bool) → hash b ≡ h → (s : Bytes) → starts true (b ∷ s) ≡ false → Neither (take (line_len (b ∷ s)) (b ∷ s))
+    by : (h : Bool) → hash b ≡ h → (s : Bytes) → starts turning (b ∷ s) ≡ false → Neither (take (line_len (b ∷ s)) (b ∷ s))
     by false f s e = plain_neither _ (no_label (b ∷ s) f)
-    by true f [] e = torn true refl (rw (f, zero_no_letter) at e)
-    by true f (x ∷ []) e = torn true refl (rw (f, zero_no_letter) at e)
-    by true f (x ∷ c ∷ r) e = third (eqb x 10) refl (foreign_is c (not-false (foreign c) (rw f at e)))
+    by true f [] e = torn true refl (rw (f, turning_zero) at e)
+    by true f (x ∷ []) e = torn true refl (rw (f, turning_zero) at e)
+    by true f (x ∷ c ∷ r) e = third (eqb x 10) refl (foreign_is c (turning_not c (rw f at e)))
       where
         third : (t : Bool) → eqb x 10 ≡ t → Foreign c → Neither (take (line_len (b ∷ x ∷ c ∷ r)) (b ∷ x ∷ c ∷ r))
         third true g k = rw (len_miss b (x ∷ c ∷ r) (hash_no_feed b f), len_hit x (c ∷ r) g) (plain_neither (b ∷ x ∷ []) (and_right_false (hash b) (hash x) (feed_no_hash x g)))

@@ -1,37 +1,16 @@
 // The name to show for a block: document 01, "Walking a transfer file".
 ghost use Rattle.std.specs.Prelude.{◌≡◌};
-ghost use Rattle.format.specs.Bytes.{is_label};
 ghost use Rattle.transfer.specs.Texts.{Named, TextEnd, Titled, ValueAt};
 
+use crate::ends::{Text, end_of};
 use fields::Field;
 use labels::LineKind;
-
-// Whether a line is a label line: "A label line starts with `##` in its first column".
-fn is_label(line: &[u8]) -> bool
-    ensures { result ≡ is_label line.now }
-{
-    if line.len() < 2 {
-        return false;
-    }
-    if line[0] != 35 {
-        return false;
-    }
-    line[1] == 35
-}
 
 // Where the text ends that goes on at `at`: at the next label line.
 fn text_end(block: &[u8], at: usize) -> usize
     ensures { TextEnd block.now at result }
 {
-    let mut i = crate::skips::skip_to_label(block, at, false);
-    while i < block.len() {
-        let next = lines::line_end(block, i);
-        if is_label(&block[i..next]) {
-            return i;
-        }
-        i = crate::skips::skip_to_label(block, next, false);
-    }
-    i
+    end_of::<Text>(block, at)
 }
 
 // Where the value of a label line starts, behind its `=`; the line's end where it is no label line or has none.
@@ -39,9 +18,8 @@ fn value_at(line: &[u8]) -> usize
     ensures { ValueAt line.now result }
 {
     match labels::line_kind(line) {
-        LineKind::Plain => line.len(),
-        LineKind::Unparted => line.len(),
         LineKind::Labelled(_, from) => from,
+        LineKind::Plain | LineKind::Unparted => line.len(),
     }
 }
 
@@ -50,10 +28,11 @@ pub fn title(block: &[u8]) -> Field
     ensures { Titled block.now result }
 {
     let end = lines::line_end(block, 0);
-    if !labels::is_title_line(&block[0..end]) {
+    let line = &block[..end];
+    if !labels::is_title_line(line) {
         return Field { from: 0, to: 0 };
     }
-    let from = value_at(&block[0..end]);
+    let from = value_at(line);
     let to = text_end(block, end);
     let text = &block[from..to];
     let kept = fields::texts::trimmed(text);
@@ -68,12 +47,10 @@ fn title_or<'a>(block: &'a [u8], stand_in: &'a [u8]) -> &'a [u8]
     ensures { Named block.now stand_in.now result.now }
 {
     let part = title(block);
-    let first = part.from;
-    let last = part.to;
-    if first == last {
+    if part.is_empty() {
         return stand_in;
     }
-    &block[first..last]
+    &block[part.from..part.to]
 }
 
 // "The name to show is a part of the block, its title, or the caller's stand-in bytes where the title is empty or the first line is no TITLE line." The block

@@ -1,71 +1,64 @@
 // Lines that cannot matter are passed over, byte by byte, with no look at their labels: those that do not start with `#`, and for the walk those whose label starts with
 // another letter than TITLE and END.
 ghost use Rattle.std.specs.Prelude.{◌≡◌, true, ◌+◌, ◌≤◌, ◌<◌, length, drop};
-ghost use Rattle.transfer.specs.Skipping.{foreign, starts, skipped, starts_at};
+ghost use Rattle.transfer.specs.Skipping.{any_byte, turning, starts, skipped, starts_at};
 
-// Whether the byte is a letter that neither TITLE nor END starts with: "For comparison letters become upper case".
-fn is_foreign(b: u8) -> bool
-    ensures { result ≡ foreign b }
-{
-    if b == 84 {
-        return false;
+use alphabet::kind::Kind;
+
+// Any byte: every label counts.
+pub(crate) struct Any;
+
+impl Kind for Any {
+    ghost holds = { any_byte };
+
+    fn has(_b: u8) -> bool {
+        true
     }
-    if b == 116 {
-        return false;
-    }
-    if b == 69 {
-        return false;
-    }
-    if b == 101 {
-        return false;
-    }
-    if alphabet::is_upper(b) {
-        return true;
-    }
-    alphabet::is_lower(b)
 }
 
-// Whether a line that starts at `i` is looked at: it starts with `#`, and where only TITLE and END count, the first byte of its label is no letter of another.
-fn heeded(file: &[u8], i: usize, turns: bool) -> bool
-    requires { i < length file.now }
-    ensures { result ≡ starts turns (drop i file.now) }
+// A byte that is no letter of another label than TITLE and END: "For comparison letters become upper case".
+pub(crate) struct Turning;
+
+impl Kind for Turning {
+    ghost holds = { turning };
+
+    #[tactic(auto, unfolding(crate::specs::Skipping::turning, crate::specs::Skipping::foreign, lists::specs::Lists::any, format::specs::Rows::upper, format::specs::Rows::lower, format::specs::Bytes::within))]
+    fn has(b: u8) -> bool {
+        match b {
+            b'T' | b't' | b'E' | b'e' => true,
+            b'A'..=b'Z' | b'a'..=b'z' => false,
+            _ => true,
+        }
+    }
+}
+
+// What stands for a byte that is not there, in the definition too; it is of no letter's kind.
+const NONE: u8 = 0;
+
+// Whether a line with these bytes in front is looked at: it starts with `#`, and the first byte of its label is of the kind that counts.
+fn heeded<K: Kind>(rest: &[u8]) -> bool
+    requires { 0 < length rest.now }
+    ensures { result ≡ starts K.holds rest.now }
 {
-    if file[i] != 35 {
-        return false;
-    }
-    if !turns {
-        return true;
-    }
-    if file.len() - i <= 2 {
-        return true;
-    }
-    !is_foreign(file[i + 2])
+    rest[0] == b'#' && K::has(rest.get(2).copied().unwrap_or(NONE))
 }
 
 // Whether a line that is looked at starts at `i`, where a line starts at `at`: a line feed, or the place it started from, stands before it.
-fn starts_at(file: &[u8], at: usize, i: usize, turns: bool) -> bool
+fn starts_at<K: Kind>(file: &[u8], at: usize, i: usize) -> bool
     requires { (at ≤ i) × (i < length file.now) }
-    ensures { result ≡ starts_at turns file.now at i }
+    ensures { result ≡ starts_at K.holds file.now at i }
 {
-    if !heeded(file, i, turns) {
-        return false;
-    }
-    if i == at {
-        return true;
-    }
-    file[i - 1] == 10
+    heeded::<K>(&file[i..]) && (i == at || file[i - 1] == b'\n')
 }
 
 // Where the first line from `at` on starts that is looked at; no other can be a label line, or where only TITLE and END count, one of theirs.
-pub fn skip_to_label(file: &[u8], at: usize, turns: bool) -> usize
-    ensures { result ≡ at + skipped turns true (drop at file.now) }
+pub(crate) fn skip_to_label<K: Kind>(file: &[u8], at: usize) -> usize
+    ensures { result ≡ at + skipped K.holds true (drop at file.now) }
 {
-    let mut i = at;
-    while i < file.len() {
-        if starts_at(file, at, i, turns) {
+    for i in at..file.len() {
+        if starts_at::<K>(file, at, i) {
             return i;
         }
-        i += 1;
     }
-    i
+    at.max(file.len())
 }

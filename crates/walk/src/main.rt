@@ -7,10 +7,9 @@ ghost use Rattle.std.specs.Prelude.{◌≤◌, ◌<◌, ◌≡◌, IfOk, length}
 
 use coordinates::table::Positions;
 use format::Table;
-use reader::Answer;
 use std::io;
 use std::io::Read;
-use transfer::walks::Walked;
+use transfer::walks::PieceKind;
 
 // Zeros for 65,536 bytes and the one more by which a longer input is told.
 fn room() -> [u8; 65537]
@@ -19,7 +18,7 @@ fn room() -> [u8; 65537]
     [0; 65537]
 }
 
-// Reads until the buffer is full or the input ends; how many bytes lie at its start.
+// Reads until the buffer is full or the input ends (as the other program does: no program can call another, and no library of the format reads); how many bytes lie at its start.
 fn read_full<R: Read>(from: &mut R, buffer: &mut [u8]) -> io::Result<usize>
     ensures { IfOk result (λ n. n ≤ length buffer.new) }
 {
@@ -57,10 +56,9 @@ fn print_block(rt: &impl Print, file: &[u8], start: usize, end: usize) -> io::Re
     print_behind(rt, end as u64)?;
     let mut table = [0i32; Table::SIZE];
     let mut positions = [0f64; Positions::SIZE];
-    let answer = reader::read(&file[start..end], &mut table, &mut positions);
-    match answer {
-        Answer::Accepted => print_reading(rt, 0, 0, &table),
-        Answer::Refused(number, place) => print_reading(rt, number, start + place, &table),
+    match reader::read(&file[start..end], &mut table, &mut positions) {
+        Ok(()) => print_reading(rt, 0, 0, &table),
+        Err(refused) => print_reading(rt, refused.refusal.number(), start + refused.place, &table),
     }
 }
 
@@ -77,18 +75,14 @@ fn print_piece(rt: &impl Print, file: &[u8], place: usize) -> io::Result<usize>
     requires { (place < length file.now) × (length file.now ≤ 65536) }
     ensures { IfOk result (λ end. (place < end) × (end ≤ length file.now)) }
 {
-    match transfer::walks::walk(file, place) {
-        Walked::Block(_, end) => {
-            print_block(rt, file, place, end)?;
-            Ok(end)
-        }
-        Walked::Stray(_, end) => {
-            print_stray(rt, place, end)?;
-            Ok(end)
-        }
-        Walked::Finished => Ok(file.len()),
-        Walked::Refused(_) => Ok(file.len()),
+    let Ok(Some(piece)) = transfer::walks::walk(file, place) else {
+        return Ok(file.len());
+    };
+    match piece.kind {
+        PieceKind::Block => print_block(rt, file, place, piece.to)?,
+        PieceKind::Stray => print_stray(rt, place, piece.to)?,
     }
+    Ok(piece.to)
 }
 
 // The lines of a file, piece by piece.

@@ -1,6 +1,7 @@
--- The writer's promise allows one answer and one buffer: document 01, "that two allowed answers are equal is proved". `Written 0` and `Refused 0` show the same
--- result; the definition has no such result, since no form is empty and no refusal's number is 0, so that the promise by itself tells the case. Assumes nothing.
-use Prim.Native.Nat.{ℕ, zero, suc, ◌+◌, ◌<◌}
+-- The writer's promise allows one answer and one buffer: document 01, "that two allowed answers are equal is proved". `Ok 0` and the refusal with the
+-- number 0 show the same result; the definition has no such result, since no form is empty and no refusal of a writing has the number 0, so that the promise by
+-- itself tells the case. Assumes nothing.
+use Prim.Native.Nat.{ℕ, ◌+◌, ◌<◌}
 use mathlib.Core.Path.{◌≡◌, refl, sym, ap, ◌∙◌, subst}
 use mathlib.Core.Bool.{Bool, true, false}
 use mathlib.Core.List.{List, ◌++◌}
@@ -8,13 +9,14 @@ use native.Mathlib.Omega.{arith}
 use lib.Dec.{ltb}
 use lib.ListN.{length, length-append}
 use lib.IntN.{ℤ}
+use Rattle.std.specs.Prelude.{Result, Ok, Err}
 use Rattle.lists.specs.Lists.{concat}
+use Rattle.format.specs.declared.refusal.Refusal.{Refusal}
 use Rattle.format.specs.Bytes.{Bytes, bytes}
 use Rattle.format.specs.Table.{sound}
 use Rattle.format.specs.Writing.{WriteResult, valued, print_record, records, canonical, form_of, written_as, write_result}
+use Rattle.format.proofs.RefusalLaws.{number_once}
 use Rattle.writer.specs.Answers.{shown}
-use Rattle.writer.specs.declared.Answer.{Answer}
-use Rattle.writer.specs.declared.Answer.TheVariants.{Written, Refused}
 
 -- NO FORM IS EMPTY
 title_some : (v rest : Bytes) → 0 < length (print_record "##TITLE=" v ++ rest)
@@ -46,27 +48,22 @@ result_some t b buffer = go (ltb (length t) 3856) refl
     go true e = rw (e, write_result) (omega arith)
     go false e = judge false (sound 103 t b) e refl refl
 
--- the answer that says what is known
-abbrev answer_of : (number count : ℕ) → Answer
-answer_of zero count = Written count
-answer_of (suc n) count = Refused (suc n)
-
-back : (r : Answer) (b : Bytes) → 0 < weight (shown r b) → answer_of (shown r b).number (shown r b).count ≡ r
-back (Written n) b h = refl
-back (Refused zero) b h = absurd (omega arith)
-back (Refused (suc n)) b h = refl
-
 -- ANY TWO ANSWERS that keep the promise, with what each leaves in the buffer
-pub one_answer : (t : List ℤ) (b buffer : Bytes) (r q : Answer) (later after : Bytes) → shown r later ≡ write_result 103 t b buffer → shown q after ≡ write_result 103 t b buffer → (r ≡ q) × (later ≡ after)
+pub one_answer : (t : List ℤ) (b buffer : Bytes) (r q : Result ℕ Refusal) (later after : Bytes) → shown r later ≡ write_result 103 t b buffer → shown q after ≡ write_result 103 t b buffer → (r ≡ q) × (later ≡ after)
 one_answer t b buffer r q later after e f =
     let h : 0 < weight (shown r later) = subst (λ w. 0 < weight w) (sym e) (result_some t b buffer) in
     let k : 0 < weight (shown q after) = subst (λ w. 0 < weight w) (sym f) (result_some t b buffer) in
-    let p : shown r later ≡ shown q after = e ∙ sym f in
-    (sym (back r later h) ∙ ap (λ w. answer_of w.number w.count) p ∙ back q after k, buffers r q p)
+    (cases r q (e ∙ sym f) h k, buffers r q (e ∙ sym f))
   where
-    held : (x : Answer) (c : Bytes) → (shown x c).buffer ≡ c
-    held (Written n) c = refl
-    held (Refused n) c = refl
+    cases : (x y : Result ℕ Refusal) → shown x later ≡ shown y after → 0 < weight (shown x later) → 0 < weight (shown y after) → x ≡ y
+    cases (Ok n) (Ok m) s h k = ap Ok (ap (λ w. w.count) s)
+    cases (Ok n) (Err d) s h k = absurd (omega (arith, h, ap (λ w. w.count) s))
+    cases (Err d) (Ok m) s h k = absurd (omega (arith, k, ap (λ w. w.count) s))
+    cases (Err d) (Err g) s h k = ap Err (number_once d g (ap (λ w. w.number) s))
 
-    buffers : (x y : Answer) → shown x later ≡ shown y after → later ≡ after
+    held : (x : Result ℕ Refusal) (c : Bytes) → (shown x c).buffer ≡ c
+    held (Ok n) c = refl
+    held (Err d) c = refl
+
+    buffers : (x y : Result ℕ Refusal) → shown x later ≡ shown y after → later ≡ after
     buffers x y s = sym (held x later) ∙ ap (λ w. w.buffer) s ∙ held y after

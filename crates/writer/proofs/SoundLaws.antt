@@ -20,6 +20,7 @@ use Rattle.format.specs.Table.{decode, encode, spans_of, same_number, sound_numb
 use Rattle.format.proofs.ByteLaws.{within_true}
 use Rattle.format.proofs.RowLaws.{row_fine_lem}
 use Rattle.groups.specs.Grouping.{AllFine, GroupsOf}
+use Rattle.tally.specs.declared.entries.Entry.{Entry}
 use Rattle.tally.specs.Gathering.{Gathered, Gathers}
 use Rattle.form.specs.Listing.{groups_fit}
 use Rattle.form.specs.Forms.{Printable}
@@ -81,12 +82,12 @@ bonds_fine_lem s h =
     (and_parts (all (row_ok Bonds n) s.bonds) (ascends row_before s.bonds && not (pairs (meets Bonds) s.bonds)) p.1).0
 
 -- GATHERED GROUP BY GROUP, from the labels of the groups
-pub groups_gathered : (t : List ℤ) (labels : List ℕ) (r n : ℕ) (keys counts lent : List ℕ) → 256 ≤ length lent → GroupsOf t lent r labels → Gathers t labels n keys counts → GroupsGathered t n keys counts
+pub groups_gathered : (t : List ℤ) (labels lent : List ℕ) (r : ℕ) (es : List Entry) → 256 ≤ length lent → GroupsOf t lent r labels → Gathers t labels es → GroupsGathered t es
 unfolding groups
-groups_gathered t labels r n keys counts lent long of g h =
+groups_gathered t labels lent r es long of g h =
     let s : Structure = decode t in
     let lows : map suc (take (length s.atoms) labels) ≡ lowest (length s.atoms) s.bonds = ap (λ (k : ℕ). map suc (take k labels)) (sym of.atoms) ∙ of.lows (bonds_fine_lem s h) in
-    subst (λ (ls : List ℕ). Gathered (groups_by ls s.atoms) n keys counts) lows
+    subst (λ (ls : List ℕ). Gathered (groups_by ls s.atoms) es) lows
     (g (well_parts s h).0 (record { enough = omega (arith, long, of.long, of.few, of.atoms); named = subst (λ (k : ℕ). all (λ l. ltb l k) (take k labels) ≡ true) of.atoms of.named }))
 
 -- A SOUND TABLE
@@ -98,9 +99,9 @@ module _ (t : List ℤ) (b : Bytes) (h : sound 103 t b ≡ true) where
   parts : (all (atom_ok 103) (decode t).atoms ≡ true) × (all (rows_ok (length (decode t).atoms) (decode t)) lists ≡ true)
   parts = well_parts (decode t) well
 
-  pub sound_printable : (n : ℕ) (keys counts : List ℕ) → GroupsGathered t n keys counts → Printable t n keys counts
-  sound_printable n keys counts g = record {
+  pub sound_printable : (es : List Entry) → GroupsGathered t es → Printable t es
+  sound_printable es g = record {
     atoms = parts.0;
     groups = λ l. rows_small (length (decode t).atoms) (decode t) l (each_list (rows_ok (length (decode t).atoms) (decode t)) parts.1 l);
-    entries = g well;
+    gathered = g well;
   }

@@ -1,11 +1,12 @@
 -- `clearing::clear` meets its contract. Assumes nothing.
-use mathlib.Core.Path.{refl}
-use native.Mathlib.Omega.{arith}
-use Rattle.clearing.proofs.ClearLaws.{cleared}
+use Rattle.std.proofs.Common.{ℕ, pos, replicate, ◌++◌, length, drop, ap, ◌∙◌, arith, length-take-le}
+use Rattle.format.specs.Table.{zeros}
 use Rattle.clearing.proofs.clear.Goals as goal
 
-pub returns-then-table-lt-SIZE : goal.returns-then-table-lt-SIZE
-returns-then-table-lt-SIZE c = (λ h. refl, λ h. absurd (omega (arith, h)))
-
-pub returns : goal.returns
-returns c = (λ h. absurd (omega (arith, h)), λ h. cleared c.args.table.now _ _ h c.clear_part.ensures)
+pub returns-in-Some : goal.returns-in-Some
+unfolding zeros
+returns-in-Some c =
+    let whole = length-take-le 3856 c.args.table.now c.in-Some.ensures.cases.enough in (
+      λ h. absurd (omega (arith, c.in-Some.ensures.cases.enough)),
+      λ h. ap (λ l. l ++ drop 3856 c.args.table.now) (c.fill.ensures.after (λ y h. h) ∙ ap (λ n. replicate n (pos 0)) (ap length c.in-Some.ensures.cases.same ∙ whole)),
+    )

@@ -1,6 +1,7 @@
 -- `elements::letter_element` meets its contract. Assumes nothing.
 use mathlib.Core.Path.{refl}
 use native.Mathlib.Omega.{arith}
+use borrow.Author.Rules.{rules}
 use Rattle.lists.specs.Lists.{any, same_by}
 use Rattle.format.specs.Bytes.{bytes, blank, gap, cons_to, fields}
 use Rattle.format.specs.Structure.{symbols, place_of}
@@ -64,4 +65,4 @@ unfolding lone place_of symbols same_by any bytes blank gap cons_to fields
 returns-in-89 c = lone_is _ 89 _ c.in-89.is refl
 
 pub returns-in_default : goal.returns-in_default
-returns-in_default c = lone_gone _ (omega arith) c.in_default.in_default-own.rest
+returns-in_default c = lone_gone _ (omega arith) (search rules)

@@ -3,4 +3,4 @@ use Rattle.fields.proofs.NextFieldLaws.{next_is}
 use Rattle.fields.proofs.next_field.Goals as goal
 
 pub returns : goal.returns
-returns c = next_is _ _ _ c.gap_end-from.ensures.is c.ink_end-to.ensures.is
+returns c = next_is _ _ _ c.run_end-from.ensures.is c.run_end-to.ensures.is

@@ -1,13 +1,13 @@
 -- `form::put_form` meets its contract. Assumes nothing.
+use mathlib.Core.Path.{sym, ◌∙◌}
 use native.Mathlib.Omega.{arith}
-use Rattle.printing.proofs.PrintLaws.{untouched}
+use Rattle.form.proofs.FormLaws.{form_led}
 use Rattle.form.proofs.put_form.Goals as goal
 
-pub returns-then-table-lt-SIZE : goal.returns-then-table-lt-SIZE
-returns-then-table-lt-SIZE c = (λ fit. absurd (omega (arith, fit.0, c.if-table-lt-SIZE.true)), λ h. untouched, λ h. untouched)
-
-pub returns-then-entries-gt512 : goal.returns-then-entries-gt512
-returns-then-entries-gt512 c = (λ fit. absurd (omega (arith, fit.1, c.if-entries-gt512.true)), λ h. untouched, λ h. untouched)
-
 pub returns : goal.returns
-returns c = (λ fit. c.put_records.ensures, λ h. absurd (omega (arith, h, c.if-table-lt-SIZE.false)), λ h. absurd (omega (arith, h, c.if-entries-gt512.false)))
+returns c =
+    let front = c.in-Some.ensures.cases in (
+      λ h fit. let p = form_led c.args.table.now _ c.args.bytes.now c.args.entries.now front.same c.put_records.ensures fit in record { place = p.print.place; laid = c.buffer-1.given.1.1 (sym p.lent) ∙ p.print.laid },
+      λ h. absurd (omega (arith, front.enough, h)),
+      λ h. absurd (omega (arith, h, c.if-entries-gt-ENTRIES.false)),
+    )

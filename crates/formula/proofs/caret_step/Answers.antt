@@ -1,17 +1,11 @@
 -- `formula::caret_step` meets its contract. Assumes nothing.
-use mathlib.Core.Path.{sym, ◌∙◌}
-use native.Mathlib.Omega.{arith}
-use Rattle.format.proofs.ByteLaws.{digit_bounds}
-use Rattle.format.proofs.FormulaLaws.{caret_digit, caret_dead}
-use Rattle.formula.proofs.StepLaws.{one_digit}
-use Rattle.formula.proofs.MoveLaws.{stays}
+use Rattle.alphabet.proofs.DigitLaws.{digit_some, digit_none}
+use Rattle.format.proofs.FormulaLaws.{caret_dead}
+use Rattle.formula.proofs.MoveLaws.{stays, mass_starts}
 use Rattle.formula.proofs.caret_step.Goals as goal
 
-pub overflow_sub-result : goal.overflow_sub-result
-overflow_sub-result c = omega (arith, digit_bounds _ (sym c.is_digit.ensures ∙ c.if-is_digit.true))
-
-pub returns-then-is_digit : goal.returns-then-is_digit
-returns-then-is_digit c = let d = sym c.is_digit.ensures ∙ c.if-is_digit.true in stays _ _ (caret_digit _ d) (omega arith, one_digit _ d)
+pub returns-in_default : goal.returns-in_default
+returns-in_default c = stays _ _ _ c.still.ensures (caret_dead _ (digit_none _ _ c.digit.ensures c.in_default.is)) tt
 
 pub returns : goal.returns
-returns c = stays _ _ (caret_dead _ (sym c.is_digit.ensures ∙ c.if-is_digit.false)) tt
+returns c = mass_starts _ _ (digit_some _ _ c.digit.ensures _ c.in-Some.is) _ c.still-2.ensures

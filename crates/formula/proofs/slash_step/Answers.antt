@@ -1,17 +1,11 @@
 -- `formula::slash_step` meets its contract. Assumes nothing.
-use mathlib.Core.Path.{sym, ◌∙◌}
-use native.Mathlib.Omega.{arith}
-use Rattle.format.proofs.ByteLaws.{digit_bounds}
+use Rattle.alphabet.proofs.DigitLaws.{digit_some, digit_none}
 use Rattle.format.proofs.FormulaLaws.{slash_digit, slash_dead}
-use Rattle.formula.proofs.StepLaws.{one_digit}
-use Rattle.formula.proofs.MoveLaws.{stays}
+use Rattle.formula.proofs.MoveLaws.{stays, count_starts}
 use Rattle.formula.proofs.slash_step.Goals as goal
 
-pub overflow_sub-result : goal.overflow_sub-result
-overflow_sub-result c = omega (arith, digit_bounds _ (sym c.is_digit.ensures ∙ c.if-is_digit.true))
-
-pub returns-then-is_digit : goal.returns-then-is_digit
-returns-then-is_digit c = let d = sym c.is_digit.ensures ∙ c.if-is_digit.true in stays _ _ (slash_digit _ _ d) (omega arith, one_digit _ d)
+pub returns-in_default : goal.returns-in_default
+returns-in_default c = stays _ _ _ c.still.ensures (slash_dead _ _ (digit_none _ _ c.digit.ensures c.in_default.is)) tt
 
 pub returns : goal.returns
-returns c = stays _ _ (slash_dead _ _ (sym c.is_digit.ensures ∙ c.if-is_digit.false)) tt
+returns c = let d = digit_some _ _ c.digit.ensures _ c.in-Some.is in count_starts _ _ d _ _ _ (slash_digit _ _ d.0) c.still-2.ensures

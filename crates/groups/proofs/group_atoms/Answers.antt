@@ -1,11 +1,6 @@
 -- `groups::group_atoms` meets its contract. Assumes nothing.
-use mathlib.Core.Path.{refl}
-use native.Mathlib.Omega.{arith}
 use Rattle.groups.proofs.GroupLaws.{grouped}
 use Rattle.groups.proofs.group_atoms.Goals as goal
-
-pub returns-then-labels-lt-ATOMS : goal.returns-then-labels-lt-ATOMS
-returns-then-labels-lt-ATOMS c = record { few = λ h. (refl, refl); grouped = λ h. absurd (omega (arith, h, c.if-labels-lt-ATOMS.true)) }
 
 pub returns : goal.returns
 returns c =

@@ -3,9 +3,6 @@ use native.Mathlib.Omega.{arith}
 use Rattle.groups.proofs.GroupLaws.{started, ended}
 use Rattle.groups.proofs.lowest_atoms.Goals as goal
 
-pub returns-then-is_one_group : goal.returns-then-is_one_group
-returns-then-is_one_group c = c.is_one_group.ensures.1 c.if-is_one_group.true
-
 pub join_bonds-requires : goal.join_bonds-requires
 join_bonds-requires c =
     started _ _ _ c.stand_alone.ensures (omega (arith, c.requires.0, c.is_one_group.ensures.0)) c.requires.1

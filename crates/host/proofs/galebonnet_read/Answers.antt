@@ -1,20 +1,20 @@
 -- The reading packed: each answer is one case. Assumes nothing.
 use native.Mathlib.Omega.{arith}
 use Rattle.reader.proofs.PlacedLaws.{place_fits}
-use Rattle.host.proofs.PackLaws.{read_packed, read_tables}
+use Rattle.host.proofs.PackLaws.{read_packed, refused_packed, read_tables}
 use Rattle.host.proofs.galebonnet_read.Goals as goal
 
-pub overflow_add-result : goal.overflow_add-result
-overflow_add-result c = omega (arith, place_fits _ _ _ _ _ _ c.read-answer.ensures.result c.in-Refused.is)
+pub packed-requires : goal.packed-requires
+packed-requires c = omega (arith, place_fits _ _ _ _ _ _ c.read.ensures.result c.in-Err.is)
 
-pub returns-in-Accepted : goal.returns-in-Accepted
-returns-in-Accepted c = record {
-  answer = read_packed _ _ _ _ c.read-answer.ensures.result c.in-Accepted.is;
-  filled = read_tables _ _ _ _ c.read-answer.ensures.result c.in-Accepted.is;
+pub returns-in-Ok : goal.returns-in-Ok
+returns-in-Ok c = record {
+  answer = read_packed _ _ _ _ c.read.ensures.result c.in-Ok.is;
+  filled = read_tables _ _ _ _ c.read.ensures.result c.in-Ok.is;
 }
 
-pub returns-in-Refused : goal.returns-in-Refused
-returns-in-Refused c = record {
-  answer = read_packed _ _ _ _ c.read-answer.ensures.result c.in-Refused.is;
-  filled = read_tables _ _ _ _ c.read-answer.ensures.result c.in-Refused.is;
+pub returns-in-Err : goal.returns-in-Err
+returns-in-Err c = record {
+  answer = refused_packed _ _ _ c.read.ensures.result _ c.in-Err.is _ _ c.packed.ensures c.number.ensures;
+  filled = read_tables _ _ _ _ c.read.ensures.result c.in-Err.is;
 }

@@ -1,17 +1,18 @@
 -- `judgement::judge` meets its contract. Assumes nothing.
-use native.Mathlib.Omega.{arith}
+use mathlib.Core.Path.{sym}
 use borrow.Author.Rules.{rules}
 use Rattle.judgement.proofs.BlockLaws.{judges_unlent, judges_lines}
 use Rattle.judgement.proofs.judge.Goals as goal
 
-pub returns-then-scratch-ne-SIZE : goal.returns-then-scratch-ne-SIZE
-returns-then-scratch-ne-SIZE c = judges_unlent _ _ _ _ (λ l. c.if-scratch-ne-SIZE.true l.long)
+pub returns-in_default : goal.returns-in_default
+returns-in_default c = rw c.at.ensures (judges_unlent _ _ _ _ (λ l. c.in_default.ensures l.ruled))
 
-pub returns-then-u-eq0 : goal.returns-then-u-eq0
-returns-then-u-eq0 c = judges_unlent _ _ _ _ (λ l. omega (arith, l.ruled.low, c.if-u-eq0.true))
-
-pub returns-then-u-gt-ELEMENTS : goal.returns-then-u-gt-ELEMENTS
-returns-then-u-gt-ELEMENTS c = judges_unlent _ _ _ _ (λ l. omega (arith, l.ruled.high, c.if-u-gt-ELEMENTS.true))
+pub returns-in_default-as_mut_array : goal.returns-in_default-as_mut_array
+returns-in_default-as_mut_array c = rw c.at-in_default-as_mut_array.ensures (judges_unlent _ _ _ _ (λ l. c.in_default-as_mut_array.ensures.cases l.long))
 
 pub returns : goal.returns
-returns c = judges_lines _ _ _ _ (record { long = c.if-scratch-ne-SIZE.false; ruled = record { low = search rules; high = search rules } }) _ _ _ c.judge_lines.ensures
+returns c =
+    let q = c.in-Some.ensures in
+    let s = c.in-Some-as_mut_array.ensures.cases in
+    let e = rw q at c.judge_lines.ensures in
+    judges_lines _ _ _ _ (record { long = s.long; ruled = rw (sym q) (record { low = c.in-Some.known.low; high = c.in-Some.known.high }) }) _ _ _ (search rules, e.0, rw s.same at e.1)

@@ -1,12 +1,8 @@
 -- `labels::is_title_line` meets its contract. Assumes nothing.
+use mathlib.Core.Path.{◌∙◌, ap}
+use lib.Dec.{eqb}
 use Rattle.labels.proofs.LabelLaws.{title_told}
 use Rattle.labels.proofs.is_title_line.Goals as goal
 
-pub returns-in-Plain : goal.returns-in-Plain
-returns-in-Plain c = title_told _ _ _ c.line_kind.ensures c.in-Plain.is
-
-pub returns-in-Unparted : goal.returns-in-Unparted
-returns-in-Unparted c = title_told _ _ _ c.line_kind.ensures c.in-Unparted.is
-
-pub returns-in-Labelled : goal.returns-in-Labelled
-returns-in-Labelled c = title_told _ _ _ c.line_kind.ensures c.in-Labelled.is
+pub returns : goal.returns
+returns c = ap (λ n. eqb n 1) c.code.ensures ∙ title_told _ _ c.line_kind.ensures

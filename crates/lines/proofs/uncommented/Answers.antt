@@ -1,18 +1,15 @@
 -- `lines::uncommented` meets its contract. Assumes nothing.
-use mathlib.Core.Path.{sym, ◌∙◌}
-use native.Mathlib.Nat.{zero-add}
-use Rattle.format.proofs.ByteLaws.{strip_at_end}
-use Rattle.lines.proofs.LineLaws.{strip_hit, strip_miss, uncomments}
+use mathlib.Core.Path.{◌∙◌, ap}
+use lib.ListN.{length}
+use borrow.Author.Tests.{tests}
+use Rattle.std.proofs.Common.{rules}
+use Rattle.std.specs.Prelude.{unwrap_or}
+use Rattle.std.proofs.lemmas.Iterator.Search.{position_from_yields_List}
+use Rattle.lists.proofs.LibraryLaws.{twos_given}
+use Rattle.lines.proofs.LineLaws.{dollars, uncomments}
 use Rattle.lines.proofs.uncommented.Goals as goal
 
-pub loop-i-init : goal.loop-i-init
-loop-i-init c = sym (zero-add _)
-
-pub returns-then-comment_at : goal.returns-then-comment_at
-returns-then-comment_at c = uncomments _ _ (sym (c.loop-i.invariant ∙ strip_hit _ _ c.loop-i-test.true (sym c.comment_at.ensures ∙ c.if-comment_at.true)))
-
-pub loop-i-preserved : goal.loop-i-preserved
-loop-i-preserved c = c.loop-i.invariant ∙ strip_miss _ _ c.loop-i-test.true (sym c.comment_at.ensures ∙ c.if-comment_at.false)
-
 pub returns : goal.returns
-returns c = uncomments _ _ (sym (c.loop-i.invariant ∙ strip_at_end _ _ c.loop-i-test.false))
+returns c =
+    let e = position_from_yields_List dollars _ _ _ c.position-comment.ensures.ran (twos_given c.args.line.now _ (search rules) (search rules)) (λ x b q k. search (rules, tests)) in
+    uncomments _ _ (c.unwrap_or.ensures ∙ ap (λ o. unwrap_or o (length c.args.line.now)) e)

@@ -2,11 +2,11 @@
 use Prim.Native.Nat.{◌-◌}
 use lib.ListN.{length}
 use Rattle.molform.specs.Verdicts.{refusal_with}
-use Rattle.molform.specs.Passes.{lead_of, Leads}
+use Rattle.molform.specs.Passes.{Leads}
 use Rattle.molform.proofs.judged_lead.Given as goal
 
-abbrev pub invariant-loop-at : goal.invariant-loop-at
-invariant-loop-at l = Leads (refusal_with l.last) l.value (lead_of l.held l.begun l.at)
+abbrev pub invariant-loop-quick : goal.invariant-loop-quick
+invariant-loop-quick l = Leads (refusal_with l.last) l.value l.lead
 
-abbrev pub decreases-loop-at : goal.decreases-loop-at
-decreases-loop-at l = length l.value - l.at
+abbrev pub decreases-loop-quick : goal.decreases-loop-quick
+decreases-loop-quick l = length l.value - l.lead.at

@@ -1,14 +1,14 @@
 -- `molform::lower_refusal` meets its contract. Assumes nothing.
-use mathlib.Core.Path.{sym, ap, ◌∙◌}
-use Rattle.molform.specs.Verdicts.{lowest}
-use Rattle.molform.proofs.VerdictLaws.{lowest_none, lowest_first, lowest_second}
+use mathlib.Core.Path.{ap, ◌∙◌}
+use mathlib.Core.Bool.{Bool, cond}
+use borrow.Author.Rules.{rules}
+use Rattle.std.specs.Prelude.{Err}
+use Rattle.std.proofs.lemmas.List.Sorted.{answers_always}
+use Rattle.molform.proofs.VerdictLaws.{less_told}
+use Rattle.format.specs.Refusals.{number_of}
 use Rattle.molform.proofs.lower_refusal.Goals as goal
 
-pub returns-then-other-eq0 : goal.returns-then-other-eq0
-returns-then-other-eq0 c = sym (ap (lowest c.args.one) c.if-other-eq0.true ∙ lowest_none _)
-
-pub returns-then-one-other : goal.returns-then-one-other
-returns-then-one-other c = sym (lowest_first _ _ c.if-one-eq0.false c.if-other-eq0.false c.if-one-other.true)
-
-pub returns-else-one-other : goal.returns-else-one-other
-returns-else-one-other c = sym (lowest_second _ _ c.if-one-eq0.false c.if-other-eq0.false c.if-one-other.false)
+pub returns : goal.returns
+returns c =
+    let e = c.min_by_key.ensures number_of (answers_always _ _ _ (λ f a r g h. search rules)) in
+    rw (c.in-Err.is, c.in-Err-other.is) (ap Err (e ∙ ap (λ (t : Bool). cond t c.in-Err-other.second c.in-Err.first) (less_told _ _)))

@@ -1,7 +1,8 @@
 -- `numbers::number` meets its contract. Assumes nothing.
+use Rattle.std.proofs.Common.{rules}
 use Rattle.format.specs.Rows.{number}
 use Rattle.numbers.proofs.number.Goals as goal
 
-pub returns : goal.returns
+pub returns-clause-says : goal.returns-clause-says
 unfolding number
-returns c = c.digits.ensures
+returns-clause-says c = search rules

@@ -1,15 +1,17 @@
 -- `numbers::signed` meets its contract. Assumes nothing.
-use Rattle.numbers.proofs.NumeralLaws.{shows_no_sign, signed_none, plus_behind, minus_behind, plus_bare}
+use mathlib.Core.Path.{◌∙◌}
+use native.Mathlib.Omega.{arith}
+use Rattle.numbers.proofs.NumeralLaws.{signed_plus, signed_minus, signed_bare, signed_none}
 use Rattle.numbers.proofs.signed.Goals as goal
 
-pub returns-then-word-lt1 : goal.returns-then-word-lt1
-returns-then-word-lt1 c = shows_no_sign _ _ (signed_none _ c.if-word-lt1.true)
+pub returns-in_err-sign-clause-says : goal.returns-in_err-sign-clause-says
+returns-in_err-sign-clause-says c = c.from_residual.ensures ∙ signed_none _ c.in_err-sign.ensures.cases
 
-pub returns-then-word-eq43 : goal.returns-then-word-eq43
-returns-then-word-eq43 c = plus_behind _ _ c.if-word-lt1.false _ _ c.if-word-eq43.true c.number.ensures c.plus.ensures
+pub returns-in-43-clause-says : goal.returns-in-43-clause-says
+returns-in-43-clause-says c = c.natural.ensures.says ∙ signed_plus _ _ _ c.in_ok-sign.ensures.cases.0 c.in-43.is
 
-pub returns-then-word-eq45 : goal.returns-then-word-eq45
-returns-then-word-eq45 c = minus_behind _ _ c.if-word-lt1.false _ _ c.if-word-eq43.false c.if-word-eq45.true c.number-then-word-eq45.ensures c.minus.ensures
+pub returns-in-45-clause-says : goal.returns-in-45-clause-says
+returns-in-45-clause-says c = c.negative.ensures.says ∙ signed_minus _ _ _ c.in_ok-sign.ensures.cases.0 c.in-45.is
 
-pub returns : goal.returns
-returns c = plus_bare _ _ c.if-word-lt1.false _ _ c.if-word-eq43.false c.if-word-eq45.false c.number-2.ensures c.plus-2.ensures
+pub returns-in_default-clause-says : goal.returns-in_default-clause-says
+returns-in_default-clause-says c = c.natural-in_default.ensures.says ∙ signed_bare _ _ _ c.in_ok-sign.ensures.cases.0 (omega arith) (omega arith)

@@ -1,31 +1,18 @@
 -- `publish::publish` meets its contract. Assumes nothing.
 use mathlib.Core.Path.{refl}
 use native.Mathlib.Omega.{arith}
-use lib.ListN.{length}
-use Rattle.gather.specs.Progress.{Bounded}
-use Rattle.header.proofs.GuardLaws.{tells_no, tells_yes}
-use borrow.Author.Rules.{rules}
-use Rattle.lists.proofs.Bools.{not_of_false, not_of_true}
+use Rattle.publish.proofs.publish.Goals.{then-table-lt-SIZE-via-then-table-lt-SIZE, then-table-lt-SIZE-via-else-table-lt-SIZE+then-block-gt-BLOCK, then-table-lt-SIZE-via-else-table-lt-SIZE+else-block-gt-BLOCK+then-not-is_bounded}
 use Rattle.publish.proofs.publish.Goals as goal
 
 pub returns-then-table-lt-SIZE : goal.returns-then-table-lt-SIZE
-returns-then-table-lt-SIZE c = (λ n. refl, λ k st h. absurd (omega (arith, h)))
-
-pub returns-then-scratch-ne-SIZE : goal.returns-then-scratch-ne-SIZE
-returns-then-scratch-ne-SIZE c = (λ n. refl, λ k st h l. absurd (c.if-scratch-ne-SIZE.true l))
-
-pub returns-then-block-gt-BLOCK : goal.returns-then-block-gt-BLOCK
-returns-then-block-gt-BLOCK c = (λ n. refl, λ k st h l s. absurd (omega (arith, s)))
-
-pub returns-then-not-is_bounded : goal.returns-then-not-is_bounded
-returns-then-not-is_bounded c = (λ n. refl, λ k st h l s b. absurd (tells_no c.is_bounded.result (Bounded _ _) c.is_bounded.ensures (not_of_false _ c.if-not-is_bounded.true) b))
-
-pub put_structure-requires : goal.put_structure-requires
-put_structure-requires c =
-    let told : Bounded (length c.args.block.now) c.args.p = tells_yes c.is_bounded.result (Bounded _ _) c.is_bounded.ensures (not_of_true _ c.if-not-is_bounded.false) in
-    (search rules, search rules, told, search rules)
+returns-then-table-lt-SIZE c = (
+  λ n. refl,
+  λ k st h l s b o m. absurd (elim c.then-table-lt-SIZE.branch [
+    | then-table-lt-SIZE-via-then-table-lt-SIZE w ↦ omega (arith, h)
+    | then-table-lt-SIZE-via-else-table-lt-SIZE+then-block-gt-BLOCK w ↦ omega (arith, s)
+    | then-table-lt-SIZE-via-else-table-lt-SIZE+else-block-gt-BLOCK+then-not-is_bounded w ↦ w.if-not-is_bounded.ensures b
+  ]),
+)
 
 pub returns : goal.returns
-returns c =
-    let told : Bounded (length c.args.block.now) c.args.p = tells_yes c.is_bounded.result (Bounded _ _) c.is_bounded.ensures (not_of_true _ c.if-not-is_bounded.false) in
-    (λ n. absurd (n (omega arith, omega arith, omega arith, told)), λ k st h l s b o m. c.put_structure.ensures k st o m)
+returns c = (λ n. absurd (n (omega arith, c.in-Some.ensures.cases.long, omega arith, c.if-not-is_bounded.ensures)), λ k st h l s b o m. c.put_structure.ensures k st (rw c.in-Some.ensures.cases.same o) m)

@@ -1,22 +1,24 @@
 -- `symbols::letters` meets its contract. Assumes nothing.
-use mathlib.Core.Path.{sym, ◌∙◌}
-use Rattle.symbols.proofs.SpellingLaws.{letters_none, letters_long, letters_low, letters_one, letters_upper, letters_two}
+use mathlib.Core.Path.{refl, sym, ◌∙◌}
+use native.Mathlib.Omega.{arith}
+use Rattle.symbols.proofs.SpellingLaws.{letters_none, letters_long, letters_one, letters_two, both_first, both_second}
+use Rattle.symbols.proofs.letters.Goals.{then-is_upper, else-is_upper}
 use Rattle.symbols.proofs.letters.Goals as goal
 
-pub returns-then-word-lt1 : goal.returns-then-word-lt1
-returns-then-word-lt1 c = sym (letters_none _ _ _ c.if-word-lt1.true)
+pub returns-in-len1-clause-says : goal.returns-in-len1-clause-says
+returns-in-len1-clause-says c = letters_one _ _ _ _ _ c.then_some.ensures _ (omega arith) c.is_upper.ensures refl
 
-pub returns-then-word-gt2 : goal.returns-then-word-gt2
-returns-then-word-gt2 c = sym (letters_long _ _ _ c.if-word-gt2.true)
+pub returns-after-is_upper-clause-says : goal.returns-after-is_upper-clause-says
+returns-after-is_upper-clause-says c =
+    letters_two _ _ _ _ _ c.then_some-in-len2.ensures _ (omega arith)
+    (elim c.if-is_upper.branch [
+      | then-is_upper w ↦ both_second _ _ _ (sym c.is_upper-in-len2.ensures ∙ w.if-is_upper.true) (w.then_some-is ∙ w.is_lower.ensures)
+      | else-is_upper w ↦ both_first _ _ _ (sym c.is_upper-in-len2.ensures ∙ w.if-is_upper.false) (w.then_some-is ∙ c.is_upper-in-len2.ensures)
+    ])
+    refl
 
-pub returns-then-not-is_upper : goal.returns-then-not-is_upper
-returns-then-not-is_upper c = sym (letters_low _ _ _ c.if-word-lt1.false c.if-word-gt2.false (sym c.is_upper.ensures ∙ c.if-not-is_upper.true))
+pub returns-in_default-clause-says : goal.returns-in_default-clause-says
+returns-in_default-clause-says c = letters_none _ _ _ (omega (arith, c.in_default.len_below))
 
-pub returns-then-word-eq1 : goal.returns-then-word-eq1
-returns-then-word-eq1 c = sym (letters_one _ _ _ c.if-word-eq1.true (sym c.is_upper.ensures ∙ c.if-not-is_upper.false))
-
-pub returns-then-not-is_lower : goal.returns-then-not-is_lower
-returns-then-not-is_lower c = sym (letters_upper _ _ _ c.if-word-lt1.false c.if-word-gt2.false c.if-word-eq1.false (sym c.is_lower.ensures ∙ c.if-not-is_lower.true))
-
-pub returns : goal.returns
-returns c = sym (letters_two _ _ _ c.if-word-lt1.false c.if-word-gt2.false c.if-word-eq1.false (sym c.is_upper.ensures ∙ c.if-not-is_upper.false) (sym c.is_lower.ensures ∙ c.if-not-is_lower.false))
+pub returns-in_default-2-clause-says : goal.returns-in_default-2-clause-says
+returns-in_default-2-clause-says c = letters_long _ _ _ (omega (arith, c.in_default.len_at_least))

@@ -1,20 +1,12 @@
 -- `symbols::with_mass` meets its contract. Assumes nothing.
-use mathlib.Core.Path.{sym, ◌∙◌}
-use native.Mathlib.Omega.{arith}
-use Rattle.symbols.proofs.SpellingLaws.{mass_none, mass_some}
+use mathlib.Core.Path.{sym, ap, ◌∙◌}
+use Rattle.std.specs.Option.{option_map}
+use Rattle.symbols.specs.ShownSymbols.{sym_of_mark}
+use Rattle.symbols.proofs.SpellingLaws.{massed_none, massed_some}
 use Rattle.symbols.proofs.with_mass.Goals as goal
 
-pub slice_bounds-mass-end : goal.slice_bounds-mass-end
-slice_bounds-mass-end c = c.digit_end-end.ensures.high (omega arith)
+pub returns-in_err-mass-clause-says : goal.returns-in_err-mass-clause-says
+returns-in_err-mass-clause-says c = ap (option_map sym_of_mark) c.from_residual.ensures ∙ massed_none _ _ c.run_end-end.ensures (sym c.mass.ensures.says ∙ c.in_err-mass.was)
 
-pub returns-in_default : goal.returns-in_default
-returns-in_default c = sym (mass_none _ _ c.digit_end-end.ensures _ c.mass.ensures c.in_default.is)
-
-pub slice_bounds-letters-count : goal.slice_bounds-letters-count
-slice_bounds-letters-count c = c.digit_end-end.ensures.high (omega arith)
-
-pub slice_bounds-letters-start : goal.slice_bounds-letters-start
-slice_bounds-letters-start c = c.digit_end-end.ensures.high (omega arith)
-
-pub returns : goal.returns
-returns c = c.letters.ensures ∙ sym (mass_some _ _ c.digit_end-end.ensures _ c.mass.ensures _ c.in-Value.is)
+pub returns-clause-says : goal.returns-clause-says
+returns-clause-says c = c.letters.ensures.says ∙ massed_some _ _ c.run_end-end.ensures _ (sym c.mass.ensures.says ∙ c.in_ok-mass.was)

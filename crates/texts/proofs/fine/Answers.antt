@@ -1,10 +1,10 @@
 -- `texts::fine` meets its contract. Assumes nothing.
-use mathlib.Core.Path.{sym, ◌∙◌}
-use Rattle.texts.proofs.TextSpanLaws.{untrimmed, fine_plain}
+use native.Mathlib.Omega.{arith}
+use Rattle.texts.proofs.TextSpanLaws.{fine_turn}
 use Rattle.texts.proofs.fine.Goals as goal
 
-pub returns-then-kept-text : goal.returns-then-kept-text
-returns-then-kept-text c = sym (untrimmed _ _ c.trimmed-kept.ensures c.if-kept-text.true)
+pub returns-then-text-kept : goal.returns-then-text-kept
+returns-then-text-kept c = grind (arith, fine_turn c.args.text.now c.trimmed-kept.result c.trimmed-kept.ensures)
 
-pub returns : goal.returns
-returns c = c.plain.ensures ∙ sym (fine_plain _ _ c.trimmed-kept.ensures c.if-kept-text.false)
+pub returns-else-text-kept : goal.returns-else-text-kept
+returns-else-text-kept c = grind (arith, fine_turn c.args.text.now c.trimmed-kept.result c.trimmed-kept.ensures)

@@ -129,6 +129,12 @@ fn laid_out(root: &Path, theorems: &[Theorem]) -> std::io::Result<()> {
             fs::copy(file.path(), crates.join(name).join("specs").join(file.file_name()))?;
         }
     }
+    // the refusals that the definitions number are named in the code
+    fs::write(
+        crates.join("format/src/lib.rt"),
+        "#![tactic(auto)]\n\npub mod refusal; // refusal.rt: why something is refused\n",
+    )?;
+    fs::copy("crates/format/src/refusal.rt", crates.join("format/src/refusal.rt"))?;
     fs::write(crates.join("lists/proofs/Lib.antt"), "-- No laws here.\n")?;
     fs::write(crates.join("format/proofs/Lib.antt"), "pub mod Computing\n")?;
     fs::copy("crates/format/proofs/Computing.antt", crates.join("format/proofs/Computing.antt"))?;

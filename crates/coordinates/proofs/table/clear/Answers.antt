@@ -2,8 +2,8 @@
 use Rattle.coordinates.proofs.ClearLaws.{fronted_short, cleared}
 use Rattle.coordinates.proofs.table.clear.Goals as goal
 
-pub returns-then-positions-lt-SIZE : goal.returns-then-positions-lt-SIZE
-returns-then-positions-lt-SIZE c = fronted_short _ _ c.if-positions-lt-SIZE.true
+pub returns-in-Some : goal.returns-in-Some
+returns-in-Some c = cleared _ _ c.in-Some.ensures.cases.enough c.in-Some.ensures.cases.same (c.fill.ensures.after (λ y h. h))
 
-pub returns : goal.returns
-returns c = cleared c.args.positions.now _ c.if-positions-lt-SIZE.false c.clear_part.ensures
+pub returns-in_default : goal.returns-in_default
+returns-in_default c = fronted_short _ _ c.in_default.ensures.cases

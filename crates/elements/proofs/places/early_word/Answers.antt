@@ -1,4 +1,5 @@
 -- `elements::places::early_word` meets its contract. Assumes nothing.
+use borrow.Author.Rules.{rules}
 use Rattle.elements.specs.Words.{words}
 use Rattle.elements.proofs.PlaceTable.{word_is, early_gone}
 use Rattle.elements.proofs.places.early_word.Goals as goal
@@ -92,4 +93,4 @@ unfolding words
 returns-in-32 c = word_is _ 32 c.in-32.is
 
 pub returns-in_default : goal.returns-in_default
-returns-in_default c = early_gone _ c.requires c.in_default.in_default-own.rest
+returns-in_default c = early_gone _ c.requires (search rules)

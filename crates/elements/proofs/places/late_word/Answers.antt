@@ -1,4 +1,5 @@
 -- `elements::places::late_word` meets its contract. Assumes nothing.
+use borrow.Author.Rules.{rules}
 use Rattle.elements.specs.Words.{words}
 use Rattle.elements.proofs.PlaceTable.{word_is, late_gone}
 use Rattle.elements.proofs.places.late_word.Goals as goal
@@ -112,4 +113,4 @@ unfolding words
 returns-in-77 c = word_is _ 77 c.in-77.is
 
 pub returns-in_default : goal.returns-in_default
-returns-in_default c = late_gone _ c.requires.0 c.requires.1 c.in_default.in_default-own.rest
+returns-in_default c = late_gone _ c.requires.0 c.requires.1 (search rules)

@@ -1,22 +1,14 @@
 -- `filling::records::fill_atoms` meets its contract. Assumes nothing.
 use native.Mathlib.Omega.{arith}
-use Rattle.filling.proofs.FillLaws.{as_it_was, filled_where}
+use Rattle.format.proofs.PlaceLaws.{atom_place_lem}
+use Rattle.filling.proofs.AtomLaws.{atoms_none, atoms_more}
 use Rattle.filling.proofs.records.fill_atoms.Goals as goal
 
-pub returns-then-part-ne-ATOMS : goal.returns-then-part-ne-ATOMS
-returns-then-part-ne-ATOMS c = as_it_was _ _ _ (λ f. c.if-part-ne-ATOMS.true f.0)
+pub loop-i-init : goal.loop-i-init
+loop-i-init c = atoms_none _ _ _ _ _ c.args.part.now _ (omega arith) (c.fill.ensures.after (λ y h. h))
 
-pub returns-then-kinds-ne-KINDS : goal.returns-then-kinds-ne-KINDS
-returns-then-kinds-ne-KINDS c = as_it_was _ _ _ (λ f. c.if-kinds-ne-KINDS.true f.1)
+pub overflow_sub-atom : goal.overflow_sub-atom
+overflow_sub-atom c = omega (arith, atom_place_lem c.loop-i.i (omega arith))
 
-pub returns-then-charges-lt-ATOMS : goal.returns-then-charges-lt-ATOMS
-returns-then-charges-lt-ATOMS c = as_it_was _ _ _ (λ f. omega (arith, f.2))
-
-pub returns-then-radicals-lt-ATOMS : goal.returns-then-radicals-lt-ATOMS
-returns-then-radicals-lt-ATOMS c = as_it_was _ _ _ (λ f. omega (arith, f.3))
-
-pub returns-then-count-gt-ATOMS : goal.returns-then-count-gt-ATOMS
-returns-then-count-gt-ATOMS c = as_it_was _ _ _ (λ f. omega (arith, f.4))
-
-pub returns : goal.returns
-returns c = filled_where _ _ _ _ (omega arith, omega arith, omega arith, omega arith, omega arith) c.put_atoms.ensures
+pub loop-i-preserved : goal.loop-i-preserved
+loop-i-preserved c = atoms_more _ _ _ _ _ _ _ _ _ _ _ (omega arith) c.atom.ensures c.number_in-charge.ensures c.number_in-radical.ensures c.loop-i.invariant c.put_all.ensures

@@ -5,4 +5,4 @@ use Rattle.form.proofs.formula.put_formula.Goals as goal
 
 pub returns : goal.returns
 unfolding bytes
-returns c = formula_laid _ c.args.keys.now c.args.counts.now c.put_text-label.ensures c.put_entries-end.ensures c.put.ensures
+returns c = formula_laid c.args.entries.now c.text.ensures c.put_entries.ensures c.byte.ensures

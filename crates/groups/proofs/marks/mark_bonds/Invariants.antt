@@ -7,6 +7,3 @@ use Rattle.groups.proofs.marks.mark_bonds.Given as goal
 
 abbrev pub invariant-loop-i : goal.invariant-loop-i
 invariant-loop-i l = (l.i ≤ l.bonds) × (l.marks ≡ marked_from l.rows l.bonds l.initial.marks l.i) × (ones l.marks ≡ l.count + ones l.initial.marks) × (l.count + l.i ≤ l.bonds)
-
-abbrev pub decreases-loop-i : goal.decreases-loop-i
-decreases-loop-i l = l.i

@@ -2,14 +2,8 @@
 use Rattle.groups.proofs.PointerLaws.{join_lower, join_higher, join_same}
 use Rattle.groups.proofs.pointers.join.Goals as goal
 
-pub shape_of-pointers-then-a-b : goal.shape_of-pointers-then-a-b
-shape_of-pointers-then-a-b c = (join_lower _ _ _ _ _ _ _ c.lowest_of-a.ensures c.lowest_of-b.ensures c.if-a-b.true).0.0
-
 pub returns-then-a-b : goal.returns-then-a-b
 returns-then-a-b c = join_lower _ _ _ _ _ _ _ c.lowest_of-a.ensures c.lowest_of-b.ensures c.if-a-b.true
-
-pub shape_of-pointers-then-b-a : goal.shape_of-pointers-then-b-a
-shape_of-pointers-then-b-a c = (join_higher _ _ _ _ _ _ _ c.lowest_of-a.ensures c.lowest_of-b.ensures c.if-b-a.true).0.0
 
 pub returns-then-b-a : goal.returns-then-b-a
 returns-then-b-a c = join_higher _ _ _ _ _ _ _ c.lowest_of-a.ensures c.lowest_of-b.ensures c.if-b-a.true

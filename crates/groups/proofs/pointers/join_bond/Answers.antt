@@ -1,25 +1,24 @@
 -- `groups::pointers::join_bond` meets its contract. Assumes nothing.
 use native.Mathlib.Omega.{arith}
+use Rattle.std.proofs.Common.{inl, inr}
 use Rattle.groups.proofs.BondLaws.{none_joins, weak_joins, unnamed_joins, named_joins}
 use Rattle.groups.proofs.pointers.join_bond.Goals as goal
 
 pub returns-then-kind-lt1 : goal.returns-then-kind-lt1
-returns-then-kind-lt1 c = none_joins c.args.table.now _ _ c.requires.0 _ c.cell-kind.ensures c.if-kind-lt1.true
-
-pub returns-then-kind-gt-LAST_JOINING : goal.returns-then-kind-gt-LAST_JOINING
-returns-then-kind-gt-LAST_JOINING c = weak_joins c.args.table.now _ _ c.requires.0 _ c.cell-kind.ensures c.if-kind-gt-LAST_JOINING.true
+returns-then-kind-lt1 c = elim c.then-kind-lt1.either [
+  | inl low ↦ none_joins c.args.table.now _ _ c.requires.0 _ c.cell-kind.ensures low
+  | inr high ↦ weak_joins c.args.table.now _ _ c.requires.0 _ c.cell-kind.ensures high.1
+]
 
 pub returns-then-first-lt1 : goal.returns-then-first-lt1
-returns-then-first-lt1 c = unnamed_joins c.args.table.now _ _ c.requires.0 _ c.cell-kind.ensures c.if-kind-lt1.false _ _ c.cell-first.ensures c.cell-second.ensures (λ w. omega (arith, w.0.0, c.if-first-lt1.true))
-
-pub returns-then-pointers-first : goal.returns-then-pointers-first
-returns-then-pointers-first c = unnamed_joins c.args.table.now _ _ c.requires.0 _ c.cell-kind.ensures c.if-kind-lt1.false _ _ c.cell-first.ensures c.cell-second.ensures (λ w. omega (arith, w.0.1, c.if-pointers-first.true))
-
-pub returns-then-second-lt1 : goal.returns-then-second-lt1
-returns-then-second-lt1 c = unnamed_joins c.args.table.now _ _ c.requires.0 _ c.cell-kind.ensures c.if-kind-lt1.false _ _ c.cell-first.ensures c.cell-second.ensures (λ w. omega (arith, w.1.0, c.if-second-lt1.true))
-
-pub returns-then-pointers-second : goal.returns-then-pointers-second
-returns-then-pointers-second c = unnamed_joins c.args.table.now _ _ c.requires.0 _ c.cell-kind.ensures c.if-kind-lt1.false _ _ c.cell-first.ensures c.cell-second.ensures (λ w. omega (arith, w.1.1, c.if-pointers-second.true))
+returns-then-first-lt1 c =
+    unnamed_joins c.args.table.now _ _ c.requires.0 _ c.cell-kind.ensures (omega arith) _ _ c.cell-first.ensures c.cell-second.ensures
+    (λ w. elim c.then-first-lt1.either [
+      | inl none ↦ omega (arith, w.0.0, none)
+      | inr (inl beyond) ↦ omega (arith, w.0.1, beyond.1)
+      | inr (inr (inl none)) ↦ omega (arith, w.1.0, none)
+      | inr (inr (inr beyond)) ↦ omega (arith, w.1.1, beyond)
+    ])
 
 pub returns : goal.returns
-returns c = named_joins c.args.table.now _ _ c.requires.0 _ c.cell-kind.ensures c.if-kind-lt1.false _ _ c.cell-first.ensures c.cell-second.ensures c.if-kind-gt-LAST_JOINING.false _ c.join.ensures
+returns c = named_joins c.args.table.now _ _ c.requires.0 _ c.cell-kind.ensures (omega arith) _ _ c.cell-first.ensures c.cell-second.ensures (omega arith) _ c.join.ensures

@@ -6,6 +6,3 @@ use Rattle.groups.proofs.pointers.join_bonds.Given as goal
 
 abbrev pub invariant-loop-i : goal.invariant-loop-i
 invariant-loop-i l = (l.i ≤ l.bonds) × JoinsAll l.initial.pointers (bonds_from l.table l.bonds l.i) l.pointers
-
-abbrev pub decreases-loop-i : goal.decreases-loop-i
-decreases-loop-i l = l.i

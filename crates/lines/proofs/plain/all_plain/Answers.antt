@@ -1,14 +1,13 @@
 -- `lines::plain::all_plain` meets its contract. Assumes nothing.
-use mathlib.Core.Path.{refl, sym, ◌∙◌}
-use native.Mathlib.Omega.{arith}
-use Rattle.lines.proofs.LineLaws.{plain_turn, plain_end}
+use mathlib.Core.Path.{◌≡◌, sym}
+use Rattle.std.proofs.Common.{rules}
+use Rattle.std.proofs.lemmas.Fn.{fold_over, fronts}
+use Rattle.std.proofs.lemmas.Iterator.{YieldsList-from_slice}
+use Rattle.lists.specs.Lists.{all}
+use Rattle.lists.proofs.ListLaws.{all_nil}
+use Rattle.lists.proofs.LibraryLaws.{all_more}
+use Rattle.format.specs.Bytes.{within}
 use Rattle.lines.proofs.plain.all_plain.Goals as goal
 
-pub loop-i-init : goal.loop-i-init
-loop-i-init c = (omega arith, refl)
-
-pub loop-i-preserved : goal.loop-i-preserved
-loop-i-preserved c = (omega arith, c.loop-i.invariant.1 ∙ plain_turn c.args.part.now _ c.loop-i-test.true c.loop-i.fine _ c.plain_too-fine.ensures)
-
 pub returns : goal.returns
-returns c = sym (c.loop-i.invariant.1 ∙ plain_end c.args.part.now _ c.loop-i-test.false _)
+returns c = fold_over fronts (λ y. y.now) _ (λ ys a. a ≡ all (within 32 126) ys) _ (λ ys a x b f' j k. (all_more (within 32 126) ys a x.now b j (search rules), search rules)) _ _ _ _ (YieldsList-from_slice c.args.part.now cc).runs (sym (all_nil (within 32 126))) c.fold.ensures.ran

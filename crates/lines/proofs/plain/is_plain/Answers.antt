@@ -4,4 +4,4 @@ use Rattle.lines.proofs.LineLaws.{plain_test}
 use Rattle.lines.proofs.plain.is_plain.Goals as goal
 
 pub returns : goal.returns
-returns c = plain_test c.args.b (omega arith)
+returns c = rw c.from.ensures (plain_test c.args.b (omega arith))

@@ -4,8 +4,8 @@ use native.Mathlib.Omega.{arith}
 use Rattle.lines.proofs.LineLaws.{looks_far}
 use Rattle.lines.proofs.plain.plain_to.Goals as goal
 
-pub returns-then-block-lt8 : goal.returns-then-block-lt8
-returns-then-block-lt8 c = (refl, refl)
+pub returns-then-block-lt-EIGHT : goal.returns-then-block-lt-EIGHT
+returns-then-block-lt-EIGHT c = (refl, refl)
 
 pub loop-i-init : goal.loop-i-init
 loop-i-init c = (refl, refl)

@@ -2,7 +2,7 @@
 use native.Mathlib.Omega.{arith}
 use Rattle.format.specs.Labels.{Bonds}
 use Rattle.format.proofs.PlaceLaws.{row_small_lem}
-use Rattle.rowform.proofs.RowLaws.{bond_laid}
+use Rattle.rowform.proofs.RowLaws.{bond_printed}
 use Rattle.rowform.proofs.rows.put_bond.Goals as goal
 
 pub overflow_add-place : goal.overflow_add-place
@@ -12,4 +12,4 @@ pub overflow_add-place-2 : goal.overflow_add-place-2
 overflow_add-place-2 c = omega (arith, row_small_lem Bonds _ _ c.bond-place.ensures)
 
 pub returns : goal.returns
-returns c = bond_laid c.args.table.now c.requires.1 c.args.i _ c.bond-place.ensures _ _ _ _ c.cell-low.ensures c.cell-high.ensures c.cell.ensures c.letter_of-kind.ensures c.put_two.ensures
+returns c = bond_printed c.args.table.now (omega arith) c.args.i _ c.bond-place.ensures _ _ _ _ c.cell-low.ensures c.cell-high.ensures c.cell.ensures c.letter_of-kind.ensures c.put_two.ensures

@@ -2,7 +2,7 @@
 use native.Mathlib.Omega.{arith}
 use Rattle.format.specs.Labels.{Centres}
 use Rattle.format.proofs.PlaceLaws.{row_small_lem}
-use Rattle.rowform.proofs.RowLaws.{centre_laid}
+use Rattle.rowform.proofs.RowLaws.{centre_printed}
 use Rattle.rowform.proofs.rows.put_centre.Goals as goal
 
 pub overflow_add-place : goal.overflow_add-place
@@ -12,4 +12,4 @@ pub overflow_add-place-2 : goal.overflow_add-place-2
 overflow_add-place-2 c = omega (arith, row_small_lem Centres _ _ c.centre-place.ensures)
 
 pub returns : goal.returns
-returns c = centre_laid c.args.table.now c.requires.1 c.args.i _ c.centre-place.ensures _ _ _ _ c.cell-atom.ensures c.cell.ensures c.letter_of-side.ensures c.cell-group.ensures c.put_one.ensures
+returns c = centre_printed c.args.table.now (omega arith) c.args.i _ c.centre-place.ensures _ _ _ _ c.cell-atom.ensures c.cell.ensures c.letter_of-side.ensures c.cell-group.ensures c.put_one.ensures

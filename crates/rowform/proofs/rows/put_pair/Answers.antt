@@ -2,7 +2,7 @@
 use native.Mathlib.Omega.{arith}
 use Rattle.format.specs.Labels.{Pairs}
 use Rattle.format.proofs.PlaceLaws.{row_small_lem}
-use Rattle.rowform.proofs.RowLaws.{pair_laid}
+use Rattle.rowform.proofs.RowLaws.{pair_printed}
 use Rattle.rowform.proofs.rows.put_pair.Goals as goal
 
 pub overflow_add-place : goal.overflow_add-place
@@ -15,4 +15,4 @@ pub overflow_add-place-3 : goal.overflow_add-place-3
 overflow_add-place-3 c = omega (arith, row_small_lem Pairs _ _ c.pair-place.ensures)
 
 pub returns : goal.returns
-returns c = pair_laid c.args.table.now c.requires.1 c.args.i _ c.pair-place.ensures _ _ _ _ _ c.cell-low.ensures c.cell-high.ensures c.cell.ensures c.letter_of-side.ensures c.cell-group.ensures c.put_two.ensures
+returns c = pair_printed c.args.table.now (omega arith) c.args.i _ c.pair-place.ensures _ _ _ _ _ c.cell-low.ensures c.cell-high.ensures c.cell.ensures c.letter_of-side.ensures c.cell-group.ensures c.put_two.ensures

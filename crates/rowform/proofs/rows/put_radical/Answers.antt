@@ -1,6 +1,7 @@
 -- `rowform::rows::put_radical` meets its contract. Assumes nothing.
-use Rattle.rowform.proofs.RowLaws.{radical_laid}
+use native.Mathlib.Omega.{arith}
+use Rattle.rowform.proofs.RowLaws.{radical_printed}
 use Rattle.rowform.proofs.rows.put_radical.Goals as goal
 
 pub returns : goal.returns
-returns c = radical_laid c.args.table.now c.requires.1 c.args.i _ c.radical.ensures _ c.cell.ensures c.put_number-value.ensures c.put_members-end.ensures c.put.ensures
+returns c = radical_printed c.args.table.now (omega arith) c.args.i _ c.radical.ensures _ c.cell.ensures c.number.ensures c.put_members.ensures

@@ -1,6 +1,6 @@
 -- `rowform::rows::put_two` meets its contract. Assumes nothing.
-use Rattle.rowform.proofs.LineLaws.{two_laid}
+use Rattle.rowform.proofs.LineLaws.{two_printed}
 use Rattle.rowform.proofs.rows.put_two.Goals as goal
 
 pub returns : goal.returns
-returns c = two_laid _ _ _ _ c.put_number-first.ensures c.put_behind-behind.ensures c.put_mark.ensures
+returns c = two_printed _ _ _ _ c.number.ensures c.behind.ensures c.put_mark.ensures

@@ -1,12 +1,8 @@
 -- `sorted::join::open_gap` meets its contract. Assumes nothing.
 use Prim.Native.Nat.{◌≤◌}
 use mathlib.Core.Path.{◌≡◌}
-use lib.ListN.{length}
 use Rattle.sorted.specs.Keyed.{opened}
 use Rattle.sorted.proofs.join.open_gap.Given as goal
 
-abbrev pub invariant-loop-j : goal.invariant-loop-j
-invariant-loop-j l = (l.j ≤ l.to) × (l.from ≤ l.j) × (length l.region ≡ length l.initial.region) × (l.region ≡ opened l.initial.region l.j l.to l.w)
-
-abbrev pub decreases-loop-j : goal.decreases-loop-j
-decreases-loop-j l = l.j
+abbrev pub invariant-loop-i : goal.invariant-loop-i
+invariant-loop-i l = (l.from ≤ l.i) × (l.i ≤ l.to) × (l.region ≡ opened l.initial.region l.i l.to l.w)

@@ -4,8 +4,5 @@ use lib.ListN.{length-set}
 use Rattle.sorted.proofs.GapLaws.{row_stored}
 use Rattle.sorted.proofs.join.put_row.Goals as goal
 
-pub bounds-region-from-2 : goal.bounds-region-from-2
-bounds-region-from-2 c = simp length-set (omega arith)
-
 pub returns : goal.returns
 returns c = (simp length-set (omega arith), row_stored _ _ _ _ _ _ c.requires.0 c.requires.1 c.open_gap.ensures.1)

@@ -1,16 +1,8 @@
 -- `sorted::keyed::bond_joined` meets its contract. Assumes nothing.
-use mathlib.Core.Path.{refl, sym, ◌∙◌}
-use native.Mathlib.Omega.{arith}
+use mathlib.Core.Path.{sym, ◌∙◌}
 use lib.ListN.{length}
-use Rattle.sorted.proofs.JoinLaws.{same_leaves}
-use Rattle.sorted.proofs.KeyedLaws.{one_fits, two_fits, order_first, order_second, shows_ordered, fits_parts, fits_not}
+use Rattle.sorted.proofs.KeyedLaws.{one_fits, two_fits, order_first, order_second, shows_ordered, fits_parts}
 use Rattle.sorted.proofs.keyed.bond_joined.Goals as goal
-
-pub returns-then-not-region_fits : goal.returns-then-not-region_fits
-returns-then-not-region_fits c = (refl, same_leaves _ _, λ long few atoms. absurd (fits_not _ _ _ _ _ (sym c.region_fits.ensures ∙ c.if-not-region_fits.true) long few atoms))
-
-pub returns-then-kind-gt5 : goal.returns-then-kind-gt5
-returns-then-kind-gt5 c = (refl, same_leaves _ _, λ long few atoms small. absurd (omega (arith, small)))
 
 pub overflow_mul-key : goal.overflow_mul-key
 overflow_mul-key c = let a = c.args in one_fits _ _ (fits_parts (length a.region.now) 1024 a.count 512 a.atoms (sym c.region_fits.ensures ∙ c.if-not-region_fits.false)).2 (order_first _ _ _ (sym c.is_ordered.ensures ∙ c.if-is_ordered.true))
@@ -18,14 +10,5 @@ overflow_mul-key c = let a = c.args in one_fits _ _ (fits_parts (length a.region
 pub overflow_add-key : goal.overflow_add-key
 overflow_add-key c = let a = c.args in two_fits _ _ _ (fits_parts (length a.region.now) 1024 a.count 512 a.atoms (sym c.region_fits.ensures ∙ c.if-not-region_fits.false)).2 (order_first _ _ _ (sym c.is_ordered.ensures ∙ c.if-is_ordered.true)) (order_second _ _ _ (sym c.is_ordered.ensures ∙ c.if-is_ordered.true))
 
-pub join-requires : goal.join-requires
-join-requires c = let f = fits_parts _ _ _ _ c.args.atoms (sym c.region_fits.ensures ∙ c.if-not-region_fits.false) in (f.0, f.1, omega arith)
-
 pub returns-then-is_ordered : goal.returns-then-is_ordered
-returns-then-is_ordered c = let a = c.join.ensures in (a.0, a.3, λ long few atoms small. (a.1, shows_ordered _ _ _ _ _ _ _ _ _ _ atoms (sym c.is_ordered.ensures ∙ c.if-is_ordered.true) a.2))
-
-pub two_atoms-requires : goal.two_atoms-requires
-two_atoms-requires c = let f = fits_parts _ _ _ _ _ (sym c.region_fits.ensures ∙ c.if-not-region_fits.false) in (f.0, f.1, omega arith, f.2)
-
-pub returns : goal.returns
-returns c = let a = c.two_atoms.ensures in (a.0, a.3, λ long few atoms small. (a.1, a.2))
+returns-then-is_ordered c = let a = c.join.ensures in (a.0, a.3, λ long few atoms small. (a.1, shows_ordered _ _ _ _ _ _ _ _ atoms (sym c.is_ordered.ensures ∙ c.if-is_ordered.true) a.2))

@@ -1,29 +1,28 @@
 -- `soundness::keyed::records_fine` meets its contract. Assumes nothing.
-use mathlib.Core.Path.{sym, ◌∙◌}
+use Prim.Native.Nat.{◌*◌, ◌≤◌}
+use mathlib.Core.Path.{refl}
+use native.Mathlib.Nat.{mul-le-mul_left}
 use native.Mathlib.Omega.{arith}
-use Rattle.format.specs.Table.{base}
-use Rattle.format.proofs.PlaceLaws.{row_place_lem, row_small_lem}
-use Rattle.soundness.specs.Sounding.{list_of, record_key}
-use Rattle.soundness.proofs.TestLaws.{records_is, keys_miss, keys_pass, keys_end}
+use Rattle.soundness.specs.Sounding.{record_key}
+use Rattle.soundness.proofs.TestLaws.{records_is, keys_turn, keys_end}
 use Rattle.soundness.proofs.keyed.records_fine.Goals as goal
 
 pub loop-i-init : goal.loop-i-init
-loop-i-init c = (omega arith, records_is c.args.table.now (base (list_of c.args.shape.list)) _ _ _ _ _ _ _)
+loop-i-init c = let s = c.args.list in records_is c.args.table.now s.first s.members s.low s.high s.grouped s.width c.args.atoms c.args.rows
 
-pub record_key-key-requires : goal.record_key-key-requires
-record_key-key-requires c = (row_small_lem _ _ _ c.record_at.ensures, c.requires.1, c.requires.2)
+pub overflow_mul-at : goal.overflow_mul-at
+overflow_mul-at c = let k : c.args.list.width * c.loop-i.i ≤ c.args.list.width * c.args.rows = mul-le-mul_left c.args.list.width (omega arith) in omega (arith, c.args.list.inside)
+
+pub overflow_add-at : goal.overflow_add-at
+overflow_add-at c = let k : c.args.list.width * c.loop-i.i ≤ c.args.list.width * c.args.rows = mul-le-mul_left c.args.list.width (omega arith) in omega (arith, c.args.list.inside)
 
 pub returns-then-key-last : goal.returns-then-key-last
-returns-then-key-last c = let l = c.loop-i in let a = c.args in sym (l.invariant.1 ∙ keys_miss a.table.now (base (list_of a.shape.list)) _ _ (record_key _ _ _ _ _) _ _ c.loop-i-test.true _ (c.record_at.ensures ∙ row_place_lem (list_of a.shape.list) l.i (omega (arith, c.requires.0))) _ c.record_key-key.ensures c.if-key-last.true)
-
-pub overflow_add-i : goal.overflow_add-i
-overflow_add-i c = omega arith
-
-pub loop-i-smaller : goal.loop-i-smaller
-loop-i-smaller c = omega arith
+returns-then-key-last c = let s = c.args.list in let i = c.loop-i.i in
+    grind (arith, c.loop-i.invariant, keys_turn c.args.table.now c.told-table s.first s.width c.args.rows i c.loop-i-test.true _ refl (record_key s.members s.low s.high s.grouped c.args.atoms) c.loop-i.last)
 
 pub loop-i-preserved : goal.loop-i-preserved
-loop-i-preserved c = let l = c.loop-i in let a = c.args in (omega arith, l.invariant.1 ∙ keys_pass a.table.now (base (list_of a.shape.list)) _ _ (record_key _ _ _ _ _) _ _ c.loop-i-test.true _ (c.record_at.ensures ∙ row_place_lem (list_of a.shape.list) l.i (omega (arith, c.requires.0))) _ c.record_key-key.ensures c.if-key-last.false)
+loop-i-preserved c = let s = c.args.list in let i = c.loop-i.i in
+    grind (arith, c.loop-i.invariant, keys_turn c.args.table.now c.told-table s.first s.width c.args.rows i c.loop-i-test.true _ refl (record_key s.members s.low s.high s.grouped c.args.atoms) c.loop-i.last)
 
 pub returns : goal.returns
-returns c = sym (c.loop-i.invariant.1 ∙ keys_end c.args.table.now (base (list_of c.args.shape.list)) _ _ (record_key _ _ _ _ _) _ _ c.loop-i-test.false)
+returns c = let s = c.args.list in grind (arith, c.loop-i.invariant, keys_end c.args.table.now s.first s.width c.args.rows c.loop-i.i c.loop-i-test.false (record_key s.members s.low s.high s.grouped c.args.atoms) c.loop-i.last)

@@ -1,14 +1,21 @@
 -- `soundness::parts::each_zero` meets its contract. Assumes nothing.
+use Prim.Native.Nat.{◌<◌, ◌^◌}
 use mathlib.Core.Path.{sym, ◌∙◌}
-use native.Mathlib.Omega.{arith}
+use lib.ListN.{get_or}
+use lib.IntN.{pos}
+use lib.Signed.{mag}
+use Rattle.std.proofs.Common.{rules}
 use Rattle.soundness.proofs.TestLaws.{bits_of, unused_whole, zeros_kept, zeros_end}
 use Rattle.soundness.proofs.parts.each_zero.Goals as goal
 
-pub loop-i-init : goal.loop-i-init
-loop-i-init c = (omega arith, unused_whole _ 0)
+pub loop-number-init : goal.loop-number-init
+loop-number-init c = unused_whole _ 0
 
-pub loop-i-preserved : goal.loop-i-preserved
-loop-i-preserved c = (omega arith, c.loop-i.invariant.1 ∙ zeros_kept c.args.part.now _ c.loop-i-test.true c.loop-i.any-bits c.loop-i.auto.any c.any-1.given)
+pub loop-number-preserved : goal.loop-number-preserved
+loop-number-preserved c =
+    let l = c.loop-number in
+    let b : mag (get_or c.args.part.now l.number-index (pos 0)) < 2 ^ 31 = search rules in
+    l.invariant ∙ zeros_kept c.args.part.now _ c.loop-number-test.true l.any-bits l.auto.any b
 
 pub returns : goal.returns
-returns c = sym (c.loop-i.invariant.1 ∙ zeros_end c.args.part.now _ c.loop-i-test.false _ ∙ bits_of c.loop-i.any-bits c.loop-i.auto.any)
+returns c = let l = c.loop-number in sym (l.invariant ∙ zeros_end c.args.part.now _ c.loop-number-test.false _ ∙ bits_of l.any-bits l.auto.any)

@@ -1,7 +1,6 @@
 -- `soundness::parts::four_zero` meets its contract. Assumes nothing.
 use mir.Syntax.{w32}
 use mir.Val.{of_z}
-use Prim.Native.Nat.{◌-◌, ◌≤◌}
 use mathlib.Core.Path.{◌≡◌}
 use mathlib.Core.Bool.{◌&&◌}
 use lib.Dec.{eqb}
@@ -10,7 +9,4 @@ use Rattle.soundness.proofs.ZeroLaws.{four_zeros}
 use Rattle.soundness.proofs.parts.four_zero.Given as goal
 
 abbrev pub invariant-loop-i : goal.invariant-loop-i
-invariant-loop-i l = (l.i ≤ l.size) × ((unused l.first && (unused l.second && (unused l.third && unused l.fourth))) ≡ (eqb (of_z w32 l.any) 0 && four_zeros l.first l.second l.third l.fourth l.i))
-
-abbrev pub decreases-loop-i : goal.decreases-loop-i
-decreases-loop-i l = l.size - l.i
+invariant-loop-i l = (unused l.first && (unused l.second && (unused l.third && unused l.fourth))) ≡ (eqb (of_z w32 l.any) 0 && four_zeros l.first l.second l.third l.fourth l.i)

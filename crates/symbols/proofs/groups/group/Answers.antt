@@ -1,25 +1,34 @@
 -- `symbols::groups::group` meets its contract. Assumes nothing.
-use mathlib.Core.Path.{sym, ◌∙◌}
+use mathlib.Core.Path.{◌≡◌, sym, ap, ◌∙◌}
+use mathlib.Core.Bool.{◌||◌}
 use native.Mathlib.Omega.{arith}
-use Rattle.format.proofs.ByteLaws.{upper_bounds, lower_bounds}
-use Rattle.numbers.proofs.NumeralLaws.{shows_wrong, shows_value}
-use Rattle.symbols.proofs.LetterLaws.{group_long, group_zero, group_upper, group_lower, group_else}
+use lib.ListN.{get_or}
+use Rattle.std.specs.Bool.{then_some}
+use Rattle.format.specs.Rows.{upper, lower}
+use Rattle.symbols.proofs.LetterLaws.{group_long, group_zero, group_letter, group_small}
+use Rattle.symbols.proofs.SpellingLaws.{either_first, either_second}
+use Rattle.symbols.proofs.groups.group.Goals.{then-is_upper, else-is_upper, After-then_some}
 use Rattle.symbols.proofs.groups.group.Goals as goal
 
-pub returns-then-word-ne1 : goal.returns-then-word-ne1
-returns-then-word-ne1 c = shows_wrong _ _ (group_long _ c.if-word-ne1.true)
+pub returns-in_default-clause-says : goal.returns-in_default-clause-says
+returns-in_default-clause-says c = group_long _ (omega (arith, c.in_default.len_below))
 
-pub returns-then-b-eq48 : goal.returns-then-b-eq48
-returns-then-b-eq48 c = shows_value _ _ _ (group_zero _ c.if-word-ne1.false c.if-b-eq48.true) (omega arith)
+pub returns-in_default-2-clause-says : goal.returns-in_default-2-clause-says
+returns-in_default-2-clause-says c = group_long _ (omega (arith, c.in_default.len_at_least))
 
-pub overflow_cast-byte : goal.overflow_cast-byte
-overflow_cast-byte c = omega (arith, c.type_inv.word 0)
+pub returns-then-letter-eq48-clause-says : goal.returns-then-letter-eq48-clause-says
+returns-then-letter-eq48-clause-says c = group_zero _ (omega arith) c.if-letter-eq48.true
 
-pub returns-then-is_upper : goal.returns-then-is_upper
-returns-then-is_upper c = shows_value _ _ _ (group_upper _ c.if-word-ne1.false c.if-b-eq48.false (sym c.is_upper.ensures ∙ c.if-is_upper.true)) (omega (arith, (upper_bounds _ (sym c.is_upper.ensures ∙ c.if-is_upper.true)).1))
+-- whether the byte is a letter
+letter : (c : After-then_some) → c.if-is_upper.then_some ≡ (upper (get_or c.args.word.now 0 0) || lower (get_or c.args.word.now 0 0))
+letter c =
+    elim c.if-is_upper.branch [
+      | then-is_upper w ↦ either_first _ _ _ (sym c.is_upper.ensures ∙ w.if-is_upper.true) (w.then_some-is ∙ c.is_upper.ensures)
+      | else-is_upper w ↦ either_second _ _ _ (sym c.is_upper.ensures ∙ w.if-is_upper.false) (w.then_some-is ∙ w.is_lower.ensures)
+    ]
 
-pub returns-then-is_lower : goal.returns-then-is_lower
-returns-then-is_lower c = shows_value _ _ _ (group_lower _ c.if-word-ne1.false c.if-b-eq48.false (sym c.is_lower.ensures ∙ c.if-is_lower.true)) (omega (arith, (lower_bounds _ (sym c.is_lower.ensures ∙ c.if-is_lower.true)).1))
+pub returns-clause-says : goal.returns-clause-says
+returns-clause-says c = c.then_some.ensures ∙ ap (then_some c.if-is_upper.then_some) c.from.ensures ∙ group_letter _ (omega arith) _ (letter c) c.if-letter-eq48.false
 
-pub returns : goal.returns
-returns c = shows_wrong _ _ (group_else _ c.if-word-ne1.false c.if-b-eq48.false (sym c.is_upper.ensures ∙ c.if-is_upper.false) (sym c.is_lower.ensures ∙ c.if-is_lower.false))
+pub returns-clause-small : goal.returns-clause-small
+returns-clause-small c = rw (c.then_some.ensures, c.from.ensures) (group_small c.args.word.now (omega arith) _ (letter c))

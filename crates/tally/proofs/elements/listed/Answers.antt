@@ -1,15 +1,12 @@
 -- `tally::elements::listed` meets its contract. Assumes nothing.
-use native.Mathlib.Omega.{arith}
-use Rattle.tally.proofs.RankLaws.{elements, element_is, element_byte, element_none}
+use mathlib.Core.Path.{◌≡◌}
+use Rattle.std.proofs.Common.{rules, of_calls}
+use Rattle.std.specs.Option.{MatchOption}
+use Rattle.tally.proofs.RankLaws.{elements, looked_up}
 use Rattle.tally.proofs.elements.listed.Goals as goal
 
-pub overflow_cast-result-then-rank-lt104 : goal.overflow_cast-result-then-rank-lt104
-unfolding elements
-overflow_cast-result-then-rank-lt104 c = record { fits = omega (arith, element_byte c.args.rank c.if-rank-lt104.true) }
-
-pub returns-then-rank-lt104 : goal.returns-then-rank-lt104
-unfolding elements
-returns-then-rank-lt104 c = element_is c.args.rank
-
 pub returns : goal.returns
-returns c = element_none _ c.if-rank-lt104.false
+unfolding elements
+returns c =
+    let m : MatchOption c.get.result (c.map_or.result ≡ 0) (λ x. c.map_or.result ≡ x.now) = search (rules, of_calls) in
+    looked_up c.args.rank c.map_or.result c.get.result c.get.ensures.lookup m

@@ -1,12 +1,8 @@
 -- `tally::elements::rank_of` meets its contract. Assumes nothing.
 use native.Mathlib.Omega.{arith}
 use mathlib.Core.Path.{refl}
-use Rattle.tally.proofs.RankLaws.{ranks, rank_entry, rank_high, rank_told}
+use Rattle.tally.proofs.RankLaws.{ranks, rank_told}
 use Rattle.tally.proofs.elements.rank_of.Goals as goal
-
-pub overflow_cast-result-in_default : goal.overflow_cast-result-in_default
-unfolding ranks
-overflow_cast-result-in_default c = record { fits = omega (arith, rank_entry c.args.element c.requires.0 c.requires.1, rank_high c.args.element c.requires.0 c.requires.1) }
 
 pub returns-in-1 : goal.returns-in-1
 unfolding ranks
@@ -26,4 +22,4 @@ returns-in-8 c = rank_told _ 8 (omega arith) (omega arith) c.in-8.is
 
 pub returns-in_default : goal.returns-in_default
 unfolding ranks
-returns-in_default c = rank_told _ c.args.element c.requires.0 c.requires.1 refl
+returns-in_default c = rw c.from.ensures (rank_told _ c.args.element c.requires.0 c.requires.1 refl)

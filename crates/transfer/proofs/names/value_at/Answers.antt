@@ -2,11 +2,5 @@
 use Rattle.transfer.proofs.LabelTests.{value_told}
 use Rattle.transfer.proofs.names.value_at.Goals as goal
 
-pub returns-in-Plain : goal.returns-in-Plain
-returns-in-Plain c = value_told _ _ _ c.line_kind.ensures c.in-Plain.is
-
-pub returns-in-Unparted : goal.returns-in-Unparted
-returns-in-Unparted c = value_told _ _ _ c.line_kind.ensures c.in-Unparted.is
-
 pub returns-in-Labelled : goal.returns-in-Labelled
 returns-in-Labelled c = value_told _ _ _ c.line_kind.ensures c.in-Labelled.is

@@ -1,6 +1,0 @@
--- `filling::put_five` meets its contract. Assumes nothing.
-use Rattle.filling.proofs.FillLaws.{placed_next}
-use Rattle.filling.proofs.put_five.Goals as goal
-
-pub returns : goal.returns
-returns c = placed_next _ _ _ _ _ _ c.put.ensures c.put_four.ensures
