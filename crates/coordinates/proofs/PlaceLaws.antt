@@ -1,13 +1,14 @@
 -- An atom's four numbers in the lent table: whether there is a place for them, written and read. Serves document 02, L2 ("per atom 1 if given, X, Y, Z; else
 -- four 0"). Assumes nothing.
-use Prim.Native.Nat.{ℕ, ◌+◌, ◌-◌, ◌*◌, ◌≤◌, ◌<◌}
+use Prim.Native.Nat.{ℕ, ◌+◌, ◌-◌, ◌*◌, ◌≤◌, ◌<◌, suc}
 use mathlib.Core.Path.{◌≡◌, refl, sym, ap, ◌∙◌}
 use mathlib.Core.Bool.{true, false}
-use mathlib.Core.List.{List, [], ◌∷◌, ◌++◌}
+use mathlib.Core.List.{List, [], ◌∷◌, ◌++◌, append_assoc}
 use native.Mathlib.Omega.{arith}
 use borrow.Author.Tests.{leb-true}
 use lib.Dec.{leb}
-use lib.ListN.{length, take, drop, get_or}
+use lib.ListN.{length, take, drop, get_or, set}
+use lib.Seq.{sets-eq}
 use lib.IntN.{pos}
 use lib.Ieee.{Float, nan, fin, binary64, of_bits, of_fields, eq}
 use Rattle.lists.proofs.Bools.{and_parts}
@@ -77,3 +78,12 @@ module _ (t : List Float) (n : ℕ) where
 
     pub read_not : eq (get_or t (4 * (n - 1)) nan) (of_bits binary64 4607182418800017408) ≡ false → NotGiven ≡ position_at t n
     read_not h = let q : eq (get_or t (4 * (n - 1)) nan) (fin false 1 (pos 0)) ≡ false = rw one_is at h in sym (place_at ∙ rw (q, four_at))
+
+-- FOUR NUMBERS stored one after another
+pub four_put : {A : Type 0} (t : List A) (at : ℕ) (g x y z : A) → at + 4 ≤ length t
+    → set (set (set (set t at g) (at + 1) x) (at + 2) y) (at + 3) z ≡ take at t ++ ((g ∷ x ∷ y ∷ z ∷ []) ++ drop (at + 4) t)
+four_put t at g x y z h =
+    let a : at + 1 ≡ suc at = omega arith in
+    let b : at + 2 ≡ suc (suc at) = omega arith in
+    let c : at + 3 ≡ suc (suc (suc at)) = omega arith in
+    rw (a, b, c) (sets-eq (g ∷ x ∷ y ∷ z ∷ []) t at h ∙ append_assoc (take at t) (g ∷ x ∷ y ∷ z ∷ []) (drop (at + 4) t))

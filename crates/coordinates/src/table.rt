@@ -38,7 +38,10 @@ fn put(positions: &mut [f64], at: usize, given: f64, x: f64, y: f64, z: f64)
     requires { at + 4 ≤ length positions.old }
     ensures { positions.new ≡ take at positions.old ++ ((given ∷ x ∷ y ∷ z ∷ []) ++ drop (at + 4) positions.old) }
 {
-    positions[at..at + Positions::WIDTH].copy_from_slice(&[given, x, y, z]);
+    positions[at] = given;
+    positions[at + 1] = x;
+    positions[at + 2] = y;
+    positions[at + 3] = z;
 }
 
 // An atom's position in the table; where the table has no place for the atom, nothing is touched.
@@ -77,7 +80,8 @@ pub fn position(positions: &[f64], atom: u32) -> Option<Point>
 pub fn clear(positions: &mut [f64])
     ensures { positions.new ≡ fronted (noughts 1024) positions.old }
 {
-    if let Some(front) = positions.first_chunk_mut::<{ Positions::SIZE }>() {
-        front.fill(NOUGHT);
+    if positions.len() < Positions::SIZE {
+        return;
     }
+    positions[..Positions::SIZE].fill(NOUGHT);
 }

@@ -79,6 +79,8 @@ fn heavy_hydrogen(caret: bool, mass: u32) -> Isotope
 }
 
 // The element, 1 to `last`, and the mass of a symbol; element 0 where it is unknown. "D and T are hydrogen of mass 2 and 3 and take no `^` (refused 12)."
+// Laid into its callers, but for the table's words: the run of quick rows asks it of every atom.
+#[inline(always)]
 pub fn isotope_of(mark: Mark, last: u32) -> Isotope
     ensures { isotope_shown result ≡ isotope last (sym_of_mark mark) }
 {

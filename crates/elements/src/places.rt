@@ -77,7 +77,9 @@ fn late_word(row: usize) -> u64
 // An entry of a word has seven bits.
 const ENTRY: u64 = 128;
 
-// The element whose letters have the number k: the upper-case letter's place times 27, and the lower-case letter's (0 where there is none).
+// The element whose letters have the number k: the upper-case letter's place times 27, and the lower-case letter's (0 where there is none). Never laid into its caller,
+// which is laid into the loops over atoms and entries: most symbols are of one letter and do without it.
+#[inline(never)]
 pub fn entry_at(k: usize) -> u32
     requires { k < 702 }
     ensures { result ≡ place_of 1 (spelling k) symbols }

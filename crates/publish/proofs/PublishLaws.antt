@@ -214,6 +214,11 @@ lent_long from t h k = length-take-le 321 (drop from t) (simp length-drop (omega
 blank_long : (n : ℕ) (t : List ℕ) → t ≡ filled 0 n [] → length t ≡ n
 blank_long n t e = ap length (e ∙ filled_nil 0 n) ∙ length-replicate {A = ℕ} n 0
 
+-- rows numbered from nothing
+pub from_nothing : {t : List ℕ} {atoms n : ℕ} {order₀ values₀ order values : List ℕ} → order₀ ≡ filled 0 65 [] → values₀ ≡ filled 0 64 []
+    → Renumbering t atoms n order₀ values₀ order values → Renumbering t atoms n (filled 0 65 []) (filled 0 64 []) order values
+from_nothing e f h long few most u v s rs k g r p q = h long few most (ap length e ∙ u) (ap length f ∙ v) s rs k g r e f
+
 pub publishes : (table table' : List ℤ) (block : Bytes) (size : ℕ) (p : Progress) (t co cs ro rs : List ℕ) → length t ≡ 2973 → Bounded size p
     → Renumbering (take 321 (drop 768 t)) p.atoms p.charges (filled 0 65 []) (filled 0 64 []) co cs → Renumbering (take 321 (drop 1089 t)) p.atoms p.radicals (filled 0 65 []) (filled 0 64 []) ro rs
     → table' ≡ table_out block p t co cs ro rs ++ drop 3856 table → (k : ℕ) (st : State) → Holding k block p t st → k ≤ 103

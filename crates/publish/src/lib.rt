@@ -38,14 +38,23 @@ struct Renumbered {
     values: [u32; Table::CHARGES],
 }
 
-// The rows of a region of charges or radicals, numbered as the table has them.
-fn numbered(region: &[u32], atoms: usize, rows: usize) -> Renumbered
-    ensures { Renumbering region.now atoms rows (filled 0 65 []) (filled 0 64 []) result.order result.values }
-{
-    let mut order = [0; Table::CHARGES + 1];
-    let mut values = [0; Table::CHARGES];
-    numbering::renumber(region, atoms, rows, &mut order, &mut values);
-    Renumbered { order, values }
+impl Renumbered {
+    // No row is numbered.
+    fn nothing() -> Renumbered
+        ensures { (result.order ≡ filled 0 65 []) × (result.values ≡ filled 0 64 []) }
+    {
+        Renumbered {
+            order: [0; Table::CHARGES + 1],
+            values: [0; Table::CHARGES],
+        }
+    }
+
+    // The rows of a region of charges or radicals, numbered as the table has them: where they stay, so that no array is copied.
+    fn number(&mut self, region: &[u32], atoms: usize, rows: usize)
+        ensures { Renumbering region.now atoms rows self.old.order self.old.values self.new.order self.new.values }
+    {
+        numbering::renumber(region, atoms, rows, &mut self.order, &mut self.values);
+    }
 }
 
 // The charge values and the radical values, in the order of the sorted rows.
@@ -130,12 +139,14 @@ fn put_structure(block: &[u8], p: Progress, scratch: &[u32; Scratch::SIZE], tabl
     requires { (3856 ≤ length table.old) × Bounded (length block.now) p × (length block.now ≤ 32768) }
     ensures { (k : ℕ) (st : State) → Holding k block.now p scratch.now st → k ≤ 103 → table.new ≡ encode (finished st.body) (map span_of st.texts) ++ drop 3856 table.old }
 {
-    let charges = numbered(
+    let mut charges = Renumbered::nothing();
+    charges.number(
         &scratch[Scratch::FIRST_CHARGE..Scratch::FIRST_RADICAL],
         p.atoms,
         p.charges,
     );
-    let radicals = numbered(
+    let mut radicals = Renumbered::nothing();
+    radicals.number(
         &scratch[Scratch::FIRST_RADICAL..Scratch::FIRST_BOND],
         p.atoms,
         p.radicals,

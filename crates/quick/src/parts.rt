@@ -1,9 +1,10 @@
 // The pieces of quick rows: a number and the space behind it, a signed one, a symbol, a line's end, what may stand behind a symbol: document 01, "Lines and labels" and "Rows". For
 // this crate alone.
-ghost use Rattle.std.specs.Prelude.{◌≡◌, ◌+◌, ◌<◌, ◌≤◌, length, IfSome};
+ghost use Rattle.std.specs.Prelude.{◌≡◌, true, ◌+◌, ◌-◌, ◌<◌, ◌≤◌, length, IfSome};
+ghost use Rattle.format.specs.Rows.{digit};
 ghost use Rattle.quick.specs.Pieces.{NumberIs, EndIs, SymbolIs, TailIs, behind_minus, lifted_by, DigitsAre, SignedIs, SpacedIs};
 
-use alphabet::{digit, is_lower, is_upper};
+use alphabet::{digit, is_digit, is_lower, is_upper};
 use rows::xyz::LIFT;
 use symbols::Mark;
 
@@ -45,12 +46,24 @@ pub struct SignedAt {
 // A signed number has at most so many digits.
 const MOST_DIGITS: usize = 6;
 
+// What a digit says. By a test and this, not by `alphabet::digit`: the Option of that is compiled into two comparisons more at each digit of a run of rows.
+fn digit_value(byte: u8) -> u32
+    requires { digit byte ≡ true }
+    ensures { (result ≡ byte - 48) × (result < 10) }
+{
+    u32::from(byte - b'0')
+}
+
 // A number of 1 to 3 digits with one space behind it: "Fields are parted by blanks."
 pub fn number_at(block: &[u8], at: usize) -> Option<NumberAt>
     requires { at + 4 ≤ length block.now }
     ensures { IfSome result (NumberIs block.now at) }
 {
-    let units = digit(block[at])?;
+    let one = block[at];
+    if !is_digit(one) {
+        return None;
+    }
+    let units = digit_value(one);
     let two = block[at + 1];
     if two == b' ' {
         return Some(NumberAt {
@@ -58,7 +71,10 @@ pub fn number_at(block: &[u8], at: usize) -> Option<NumberAt>
             to: at + 2,
         });
     }
-    let tens = units * 10 + digit(two)?;
+    if !is_digit(two) {
+        return None;
+    }
+    let tens = units * 10 + digit_value(two);
     let three = block[at + 2];
     if three == b' ' {
         return Some(NumberAt {
@@ -66,11 +82,16 @@ pub fn number_at(block: &[u8], at: usize) -> Option<NumberAt>
             to: at + 3,
         });
     }
-    let number = tens * 10 + digit(three)?;
+    if !is_digit(three) {
+        return None;
+    }
     if block[at + 3] != b' ' {
         return None;
     }
-    Some(NumberAt { number, to: at + 4 })
+    Some(NumberAt {
+        number: tens * 10 + digit_value(three),
+        to: at + 4,
+    })
 }
 
 // A line feed, or a carriage return and a line feed: "A line ends with a line feed (10)", and a carriage return is a blank.
@@ -88,28 +109,6 @@ pub fn end_at(block: &[u8], at: usize) -> Option<usize>
     Some(at + 2)
 }
 
-// A symbol without `^`: "an upper-case letter and at most one lower-case letter".
-pub fn symbol_at(block: &[u8], at: usize) -> Option<SymbolAt>
-    requires { at + 2 ≤ length block.now }
-    ensures { IfSome result (SymbolIs block.now at) }
-{
-    let first = block[at];
-    if !is_upper(first) {
-        return None;
-    }
-    let second = block[at + 1];
-    if is_lower(second) {
-        return Some(SymbolAt {
-            mark: Mark::plain(first, second),
-            to: at + 2,
-        });
-    }
-    Some(SymbolAt {
-        mark: Mark::plain(first, 0),
-        to: at + 1,
-    })
-}
-
 // What stands behind the symbol: "optional hydrogens 0 to 15 (absent means 0)", here one space and one digit, and the line's end.
 pub fn tail_at(block: &[u8], at: usize) -> Option<Tail>
     requires { at + 4 ≤ length block.now }
@@ -124,6 +123,33 @@ pub fn tail_at(block: &[u8], at: usize) -> Option<Tail>
     Some(Tail { hydrogens: 0, next })
 }
 
+// A symbol without `^`, "an upper-case letter and at most one lower-case letter", and what stands behind it. The ways part at the second letter: one place behind both, chosen
+// by what was read, would hold up all that is read from there on.
+pub fn symbol_and_tail(block: &[u8], at: usize) -> Option<(SymbolAt, Tail)>
+    requires { at + 6 ≤ length block.now }
+    ensures { IfSome result (λ p. SymbolIs block.now at p.0 × TailIs block.now p.0.to p.1) }
+{
+    let first = block[at];
+    if !is_upper(first) {
+        return None;
+    }
+    let second = block[at + 1];
+    if is_lower(second) {
+        let behind = tail_at(block, at + 2)?;
+        let symbol = SymbolAt {
+            mark: Mark::plain(first, second),
+            to: at + 2,
+        };
+        return Some((symbol, behind));
+    }
+    let tail = tail_at(block, at + 1)?;
+    let symbol = SymbolAt {
+        mark: Mark::plain(first, 0),
+        to: at + 1,
+    };
+    Some((symbol, tail))
+}
+
 // The digits from `at` on, none or at most six.
 fn digits_at(block: &[u8], at: usize) -> Digits
     requires { at + 6 ≤ length block.now }
@@ -131,10 +157,11 @@ fn digits_at(block: &[u8], at: usize) -> Digits
 {
     let mut value = 0;
     for to in at..at + MOST_DIGITS {
-        let Some(d) = digit(block[to]) else {
+        let byte = block[to];
+        if !is_digit(byte) {
             return Digits { value, to };
-        };
-        value = value * 10 + d;
+        }
+        value = value * 10 + digit_value(byte);
     }
     Digits {
         value,

@@ -1,5 +1,5 @@
 -- The lines of atoms and rows as they stand in a table: document 01, "The structure table" and "The one written form". Assumes nothing.
-use Rattle.std.specs.Prelude.{ℕ, ◌+◌, ◌*◌, ◌<◌, Bool, true, false, List, [], ◌∷◌, ◌++◌, map, length, get_or, ℤ, pos}
+use Rattle.std.specs.Prelude.{ℕ, ◌+◌, ◌*◌, ◌<◌, ◌≡◌, Bool, true, false, List, [], ◌∷◌, ◌++◌, map, length, get_or, ℤ, pos}
 use Rattle.format.specs.Bytes.{Bytes}
 use Rattle.format.specs.Labels.{ListOf, Bonds, Charges, Radicals, Centres, Pairs}
 use Rattle.format.specs.Rows.{Row, row}
@@ -45,3 +45,7 @@ row_no l t i = get_or (rows_of l (decode t)) i (row [] (pos 0) 0)
 
 abbrev pub RowLaid : ListOf → List ℤ → (i : ℕ) (before later : Sheet) → Type 0
 RowLaid l t i s s' = i < length (rows_of l (decode t)) → (row_no l t i).group < 256 → Printed s (line (row_words l (row_no l t i))) s'
+
+-- whatever is printed, and where nothing is promised of it too: the sheet's buffer is still the one that was lent
+abbrev pub Lent : (before later : Sheet) → Type 0
+Lent s s' = s'.buffer.ghost_name ≡ s.buffer.ghost_name

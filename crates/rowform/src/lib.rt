@@ -5,7 +5,7 @@
 ghost use Rattle.std.specs.Prelude.{◌≡◌, [], ◌∷◌, ◌++◌, ◌≤◌, ◌<◌, length};
 ghost use Rattle.format.specs.Writing.{digits};
 ghost use Rattle.printing.specs.Printing.{Printed};
-ghost use Rattle.rowform.specs.Lines.{list_of, atom_line, RowLaid};
+ghost use Rattle.rowform.specs.Lines.{list_of, atom_line, RowLaid, Lent};
 
 use crate::rows::{put_bond, put_centre, put_charge, put_pair, put_radical};
 use cells::cell;
@@ -55,7 +55,8 @@ pub fn put_atom(sheet: &mut Sheet, table: &[i32], i: usize)
 
 // A row of a list, which holds at most 512.
 pub fn put_row(list: Listed, sheet: &mut Sheet, table: &[i32], i: usize)
-    ensures { ((i < 512) × (3856 ≤ length table.now) → RowLaid (list_of list) table.now i sheet.old sheet.new) × (512 ≤ i → sheet.new ≡ sheet.old) × (length table.now < 3856 → sheet.new ≡ sheet.old) }
+    ensures printed { ((i < 512) × (3856 ≤ length table.now) → RowLaid (list_of list) table.now i sheet.old sheet.new) × (512 ≤ i → sheet.new ≡ sheet.old) × (length table.now < 3856 → sheet.new ≡ sheet.old) }
+    ensures lent { Lent sheet.old sheet.new }
 {
     let Some(numbers) = table.first_chunk::<{ Table::SIZE }>() else {
         return;

@@ -4,7 +4,7 @@ ghost use Rattle.format.specs.Labels.{Bonds, Charges, Radicals, Centres, Pairs};
 ghost use Rattle.format.specs.Table.{cell as cell_of, members_at, atom_records};
 ghost use Rattle.format.specs.Writing.{digits, signed_of};
 ghost use Rattle.printing.specs.Printing.{Printed, spaced};
-ghost use Rattle.rowform.specs.Lines.{mark_words, mark_line, member_of, RowLaid};
+ghost use Rattle.rowform.specs.Lines.{mark_words, mark_line, member_of, RowLaid, Lent};
 
 use cells::{cell, count_at, is_negative};
 use format::Table;
@@ -12,7 +12,8 @@ use printing::Sheet;
 
 // A letter and a group behind what stands on the line, and the line's end: "group 0 left out". A group is a byte.
 fn put_mark(sheet: &mut Sheet, letter: u8, group: u32)
-    ensures { group < 256 → Printed sheet.old (spaced (mark_words letter group) ++ (10 ∷ [])) sheet.new }
+    ensures printed { group < 256 → Printed sheet.old (spaced (mark_words letter group) ++ (10 ∷ [])) sheet.new }
+    ensures lent { Lent sheet.old sheet.new }
 {
     let [byte, ..] = group.to_le_bytes();
     if group == 0 {
@@ -24,7 +25,8 @@ fn put_mark(sheet: &mut Sheet, letter: u8, group: u32)
 
 // The line of one atom, a letter and a group.
 fn put_one(sheet: &mut Sheet, atom: u32, letter: u8, group: u32)
-    ensures { group < 256 → Printed sheet.old (mark_line (atom ∷ []) letter group) sheet.new }
+    ensures printed { group < 256 → Printed sheet.old (mark_line (atom ∷ []) letter group) sheet.new }
+    ensures lent { Lent sheet.old sheet.new }
 {
     sheet.number(atom);
     put_mark(sheet, letter, group);
@@ -32,7 +34,8 @@ fn put_one(sheet: &mut Sheet, atom: u32, letter: u8, group: u32)
 
 // The line of two atoms, a letter and a group.
 fn put_two(sheet: &mut Sheet, low: u32, high: u32, letter: u8, group: u32)
-    ensures { group < 256 → Printed sheet.old (mark_line (low ∷ high ∷ []) letter group) sheet.new }
+    ensures printed { group < 256 → Printed sheet.old (mark_line (low ∷ high ∷ []) letter group) sheet.new }
+    ensures lent { Lent sheet.old sheet.new }
 {
     sheet.number(low);
     sheet.behind(high);
@@ -48,7 +51,8 @@ fn letter_of(letters: &[u8], value: u32) -> u8
 
 // The line of a bond: "two atoms and S, D, T, Q or A".
 pub fn put_bond(sheet: &mut Sheet, table: &[i32; Table::SIZE], i: usize)
-    ensures { RowLaid Bonds table.now i sheet.old sheet.new }
+    ensures printed { RowLaid Bonds table.now i sheet.old sheet.new }
+    ensures lent { Lent sheet.old sheet.new }
 {
     let place = Table::bond(i);
     let low = cell(table, place);
@@ -59,7 +63,8 @@ pub fn put_bond(sheet: &mut Sheet, table: &[i32; Table::SIZE], i: usize)
 
 // The line of a centre: "atom, P or M, optional group"; "group 0 left out".
 pub fn put_centre(sheet: &mut Sheet, table: &[i32; Table::SIZE], i: usize)
-    ensures { RowLaid Centres table.now i sheet.old sheet.new }
+    ensures printed { RowLaid Centres table.now i sheet.old sheet.new }
+    ensures lent { Lent sheet.old sheet.new }
 {
     let place = Table::centre(i);
     let atom = cell(table, place);
@@ -70,7 +75,8 @@ pub fn put_centre(sheet: &mut Sheet, table: &[i32; Table::SIZE], i: usize)
 
 // The line of a pair: "two atoms, P, M or 0, optional group".
 pub fn put_pair(sheet: &mut Sheet, table: &[i32; Table::SIZE], i: usize)
-    ensures { RowLaid Pairs table.now i sheet.old sheet.new }
+    ensures printed { RowLaid Pairs table.now i sheet.old sheet.new }
+    ensures lent { Lent sheet.old sheet.new }
 {
     let place = Table::pair(i);
     let low = cell(table, place);
@@ -115,7 +121,8 @@ fn put_signed(sheet: &mut Sheet, table: &[i32; Table::SIZE], place: usize)
 // The line of a charge: "signed value .. then no or more atoms".
 pub fn put_charge(sheet: &mut Sheet, table: &[i32; Table::SIZE], i: usize)
     requires { i < 512 }
-    ensures { RowLaid Charges table.now i sheet.old sheet.new }
+    ensures printed { RowLaid Charges table.now i sheet.old sheet.new }
+    ensures lent { Lent sheet.old sheet.new }
 {
     put_signed(sheet, table, Table::charge(i));
     put_members(sheet, table, 3, i as u32 + 1);
@@ -124,7 +131,8 @@ pub fn put_charge(sheet: &mut Sheet, table: &[i32; Table::SIZE], i: usize)
 // The line of a radical: "unsigned .. then the same".
 pub fn put_radical(sheet: &mut Sheet, table: &[i32; Table::SIZE], i: usize)
     requires { i < 512 }
-    ensures { RowLaid Radicals table.now i sheet.old sheet.new }
+    ensures printed { RowLaid Radicals table.now i sheet.old sheet.new }
+    ensures lent { Lent sheet.old sheet.new }
 {
     sheet.number(cell(table, Table::radical(i)));
     put_members(sheet, table, 4, i as u32 + 1);

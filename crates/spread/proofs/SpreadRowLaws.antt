@@ -10,7 +10,7 @@ use lib.ListN.{length, set}
 use lib.IntN.{ℤ}
 use lib.Seq.{set-append_left}
 use lib.Dec.{eqb, ltb, leb}
-use borrow.Author.Tests.{le-leb, lt-leb}
+use borrow.Author.Tests.{leb-false, le-leb, lt-leb}
 use Rattle.lists.specs.Lists.{is_nil, all, any, pairs, filled}
 use Rattle.lists.specs.Order.{sort}
 use Rattle.lists.proofs.Bools.{torn}
@@ -33,6 +33,10 @@ use Rattle.spread.specs.Members.{list_of, claimed, ShowsClaim}
 use Rattle.spread.proofs.PlaceLaws.{arrived_length, arrived_more}
 use Rattle.spread.proofs.MemberLaws.{claimed_some}
 use Rattle.spread.proofs.SpreadLaws.{clash_spread, most_spread, members_length, region_is, unless, halfway, claimed_void, claimed_members}
+
+-- there is room for one row more where the list is not full
+pub room : (count : ℕ) → leb 64 count ≡ false → count + 1 ≤ 64
+room count e = omega (arith, leb-false 64 count e)
 
 -- THE CLAIM of a row as it stands on its line
 unsorted : (ns : List ℕ) (p : ℕ → Bool) → any p (reverse_aux ns []) ≡ any p (sort ltb ns)

@@ -39,26 +39,6 @@ stands t place key b e h =
     let q = and_parts (ltb place (length t)) (eqb (get_or (keys_in t) place 0) key) (sym e ∙ h) in
     (ltb-true place (length t) q.0, eqb-true (get_or (keys_in t) place 0) key q.1)
 
--- an entry put in: the entries from its place on are turned by one, so that the last stands there, and are overwritten from there
-pub inserted : {A : Type 0} (xs : List A) (place count : ℕ) (ys : List A) (x : A) → place ≤ count → count < length xs → length ys ≡ count + 1 - place
-    → ys ≡ drop (count - place) (take (count + 1 - place) (drop place xs)) ++ take (count - place) (take (count + 1 - place) (drop place xs))
-    → take (count + 1) (set (put_mid place (count + 1 - place) xs ys) place x) ≡ take place (take count xs) ++ (x ∷ drop place (take count xs))
-inserted xs place count ys x p c l e =
-    let sub : List _ = take (count + 1 - place) (drop place xs) in
-    let front : length (take place xs) ≡ place = length-take-le place xs (omega arith) in
-    let long : length sub ≡ count + 1 - place = length-take-le (count + 1 - place) (drop place xs) (omega (arith, length-drop place xs)) in
-    let one : length (drop (count - place) sub) ≡ 1 = omega (arith, length-drop (count - place) sub, long, p) in
-    let next : suc place ≡ place + 1 = omega arith in
-    let upto : count ≡ place + (count - place) = omega arith in
-    let behind : drop 1 ys ≡ drop place (take count xs) =
-    ap (drop 1) e ∙ drop_at (drop (count - place) sub) (take (count - place) sub) 1 one ∙ take-take (count - place) (count + 1 - place) (drop place xs) (omega arith)
-    ∙ sym (drop-take place (count - place) xs) ∙ ap (λ (n : ℕ). drop place (take n xs)) (sym upto) in
-    take-set-lt (count + 1) (put_mid place (count + 1 - place) xs ys) place x (omega arith)
-    ∙ ap (λ (zs : List _). set zs place x) (take-put_mid place (count + 1 - place) xs ys (count + 1) (omega (arith, l, p)) (omega arith))
-    ∙ set_split (take place xs ++ ys) place x (omega (arith, length-append (take place xs) ys, front, l, p))
-    ∙ ap₂ (λ (u v : List _). u ++ (x ∷ v)) (take_at (take place xs) ys place front ∙ sym (take-take place count xs p))
-    (ap (λ (n : ℕ). drop n (take place xs ++ ys)) next ∙ sym (drop-drop 1 place (take place xs ++ ys)) ∙ ap (drop 1) (drop_at (take place xs) ys place front) ∙ behind)
-
 module _ (t : List Tallied) (place key more : ℕ) (b : Bool) (st : b ≡ (ltb place (length t) && eqb (get_or (keys_in t) place 0) key)) where
   -- raised: the entry at the place has its key still, and counts so many more
   pub add_raised : b ≡ true → (e' : Tallied) → e'.key ≡ (get_or t place nothing).key → e'.count ≡ (get_or t place nothing).count + more → AddShows place key more t (set t place e')

@@ -6,7 +6,7 @@ use mathlib.Core.Bool.{Bool, true, false}
 use mathlib.Core.List.{List, [], ◌∷◌, map}
 use native.Mathlib.Numerals.{add-one}
 use native.Mathlib.Omega.{arith}
-use lib.ListN.{length, get_or, take, drop, get_or-eq_default}
+use lib.ListN.{length, get_or, take, drop, set, get_or-eq_default}
 use lib.Seq.{length-take-le, take_all}
 use lib.IntN.{ℤ}
 use lib.Dec.{eqb, ltb}
@@ -178,6 +178,14 @@ group_all p i (x ∷ xs) (a ∷ atoms) h = let q = all_parts p a atoms h in by (
 pub groups_all : (p : Atom → Bool) (xs is : List ℕ) (atoms : List Atom) → all p atoms ≡ true → all (all p) (map (λ i. group_of i xs atoms) is) ≡ true
 groups_all p xs [] atoms h = all_nil (all p)
 groups_all p xs (i ∷ is) atoms h = all_both (all p) (group_of i xs atoms) (map (λ j. group_of j xs atoms) is) (group_all p i xs atoms h) (groups_all p xs is atoms h)
+
+-- a bound on all numbers of a list still holds where one that keeps it is put among them
+pub low_set : (b : ℕ) (l : List ℕ) → ((j : ℕ) → get_or l j 0 ≤ b) → (i a : ℕ) → a ≤ b → (j : ℕ) → get_or (set l i a) j 0 ≤ b
+low_set b [] h i a k j = h j
+low_set b (x ∷ xs) h zero a k zero = k
+low_set b (x ∷ xs) h zero a k (suc j) = h (suc j)
+low_set b (x ∷ xs) h (suc i) a k zero = h zero
+low_set b (x ∷ xs) h (suc i) a k (suc j) = low_set b xs (λ m. h (suc m)) i a k j
 
 group_none : (n m : ℕ) → n ≤ m → (ls : List ℕ) (atoms : List Atom) → all (λ l. ltb l n) ls ≡ true → group_of (suc m) (map suc ls) atoms ≡ []
 unfolding group_of

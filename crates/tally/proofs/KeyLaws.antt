@@ -13,7 +13,7 @@ use Rattle.format.specs.Structure.{Isotope, isotope_of, same_isotope, Atom, atom
 use Rattle.format.specs.Writing.{formula_before}
 use Rattle.tally.specs.Ranks.{rank_of, element_of, key_of, fine, key_if}
 use Rattle.std.specs.Prelude.{Some, None}
-use Rattle.tally.proofs.RankLaws.{rank_back, rank_high, rank_before, rank_equal}
+use Rattle.tally.proofs.RankLaws.{rank_back, rank_low, rank_high, rank_before, rank_equal}
 
 -- NUMBERS WITH TWO DIGITS to the base 512
 module _ (b d : ℕ) (p : b < 512) (q : d < 512) (a c : ℕ) where
@@ -62,11 +62,15 @@ atom_fine_lem a h =
     let q = and_parts (leb a.kind.mass 300) (leb a.hydrogens 15) p.1 in
     (and_both (within 1 103 a.kind.element) (leb a.kind.mass 300) p.0 q.0, leb-true a.hydrogens 15 q.1)
 
--- ITS KEY gives it back
+-- ITS KEY is not 0, and gives it back
 module _ (i : Isotope) (h : fine i ≡ true) where
   pub key_if_lem : key_if i ≡ Some (key_of i)
   unfolding key_if
   key_if_lem = rw (h, key_if)
+
+  pub key_some : 0 < key_of i
+  unfolding key_of
+  key_some = let f = fine_parts i h in omega (arith, rank_low i.element f.low f.high)
 
   pub key_high : key_of i < 65536
   unfolding key_of

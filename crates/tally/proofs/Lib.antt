@@ -6,6 +6,7 @@ pub mod AtomLaws
 pub mod SumLaws
 pub mod FormulaLaws
 pub mod SearchLaws
+pub mod GapLaws
 pub mod AddLaws
 pub mod GroupLaws
 pub mod GatherLaws

@@ -43,6 +43,10 @@ module _ (k : ℕ) where
 pub shows_none : Shows [] [] []
 shows_none = record { up = ascends_nil ltb; there = λ k. any_nil (eqb k) ∙ sym (any_nil (keyed k)); sums = refl }
 
+pub shows_same : (es fs : List Tallied) (ks cs : List ℕ) → ((k : ℕ) → any (keyed k) es ≡ any (keyed k) fs) → ((k : ℕ) → sum_of k es ≡ sum_of k fs) → Shows es ks cs → Shows fs ks cs
+shows_same es fs ks cs a b s =
+    record { up = s.up; there = λ k. s.there k ∙ a k; sums = s.sums ∙ map_on (λ (k : ℕ). sum_of k es) (λ (k : ℕ). sum_of k fs) 0 ks (λ i h. b (get_or ks i 0)) }
+
 -- WHAT STANDS AT AN INDEX
 module _ (es : List Tallied) (ks cs : List ℕ) (s : Shows es ks cs) where
   pub shows_long : length cs ≡ length ks

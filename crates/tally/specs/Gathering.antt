@@ -1,6 +1,6 @@
 -- The formula's entries gathered by key: document 01, "The one written form". What a tally shows of entries met so far, and what it holds in the end. Assumes
 -- nothing.
-use Rattle.std.specs.Prelude.{ℕ, suc, ◌+◌, ◌*◌, ◌/◌, ◌%◌, ◌≤◌, ◌<◌, ◌≡◌, Bool, true, false, List, [], ◌∷◌, ◌++◌, map, length, get_or, take, ℤ, eqb, ltb}
+use Rattle.std.specs.Prelude.{ℕ, suc, ◌+◌, ◌-◌, ◌*◌, ◌/◌, ◌%◌, ◌≤◌, ◌<◌, ◌≡◌, Bool, true, false, List, [], ◌∷◌, ◌++◌, map, length, get_or, take, drop, ℤ, eqb, ltb}
 use Rattle.lists.specs.Lists.{all, any, flat, rows_from}
 use Rattle.lists.specs.Order.{sort, ascends}
 use Rattle.format.specs.Formula.{Counted, counted}
@@ -110,3 +110,7 @@ closed l h es = elim (eqb h 0) [ true ↦ es | false ↦ tallied (in_group l 102
 
 abbrev pub CloseShows : (group hydrogens : ℕ) (tally later : List Entry) → Type 0
 CloseShows l h t t' = (es : List Entry) → TallyShows es t → TallyShows (closed l h es) t'
+
+-- a gap at a place: what stands from there up to `count` has moved up by one
+unfoldable pub opened : {A : Type 0} → List A → (place count : ℕ) → List A
+opened xs place count = take (place + 1) xs ++ (take (count - place) (drop place xs) ++ drop (count + 1) xs)

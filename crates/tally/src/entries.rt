@@ -1,6 +1,6 @@
 // Entries by ascending key, in room for 512. Atoms of one kind mostly go to one place, so the caller may say at which one to look first.
 ghost use Rattle.std.specs.Prelude.{◌≡◌, ℕ, ◌&&◌, ◌+◌, ◌≤◌, [], ◌∷◌, ◌++◌, length, get_or, take, drop, eqb, ltb};
-ghost use Rattle.tally.specs.Gathering.{keys_in, counts_in, KeysAscend, PlaceOf, AddShows, CloseShows};
+ghost use Rattle.tally.specs.Gathering.{keys_in, counts_in, KeysAscend, PlaceOf, AddShows, CloseShows, opened};
 
 use crate::elements::HYDROGEN;
 use crate::{ENTRIES, GROUPS};
@@ -30,6 +30,17 @@ impl Model for Tally {
     ghost view = { λ t. take t.count t.entries };
 
     ghost invariant = { λ t. t.count ≤ 512 };
+}
+
+// The entries from a place up to `count` move up by one, the last first. By a loop, not by `rotate_right`: that is compiled into `memmove`, which the archive for C
+// would then need from its host.
+fn open_gap(entries: &mut [Entry; ENTRIES], place: usize, count: usize)
+    requires { (place ≤ count) × (count ≤ 511) }
+    ensures { entries.new ≡ opened entries.old place count }
+{
+    for i in (place..count).rev() {
+        entries[i + 1] = entries[i];
+    }
 }
 
 impl Tally {
@@ -94,7 +105,7 @@ impl Tally {
         requires { (place ≤ length self.old) × (length self.old ≤ 511) }
         ensures { self.new ≡ take place self.old ++ (entry ∷ drop place self.old) }
     {
-        self.entries[place..=self.count].rotate_right(1);
+        open_gap(&mut self.entries, place, self.count);
         self.entries[place] = entry;
         self.count += 1;
     }

@@ -11,5 +11,5 @@ overflow_add-place c = omega (arith, row_small_lem Bonds _ _ c.bond-place.ensure
 pub overflow_add-place-2 : goal.overflow_add-place-2
 overflow_add-place-2 c = omega (arith, row_small_lem Bonds _ _ c.bond-place.ensures)
 
-pub returns : goal.returns
-returns c = bond_printed c.args.table.now (omega arith) c.args.i _ c.bond-place.ensures _ _ _ _ c.cell-low.ensures c.cell-high.ensures c.cell.ensures c.letter_of-kind.ensures c.put_two.ensures
+pub returns-clause-printed : goal.returns-clause-printed
+returns-clause-printed c = bond_printed c.args.table.now (omega arith) c.args.i _ c.bond-place.ensures _ _ _ _ c.cell-low.ensures c.cell-high.ensures c.cell.ensures c.letter_of-kind.ensures c.put_two.ensures.printed

@@ -11,5 +11,5 @@ overflow_add-place c = omega (arith, row_small_lem Centres _ _ c.centre-place.en
 pub overflow_add-place-2 : goal.overflow_add-place-2
 overflow_add-place-2 c = omega (arith, row_small_lem Centres _ _ c.centre-place.ensures)
 
-pub returns : goal.returns
-returns c = centre_printed c.args.table.now (omega arith) c.args.i _ c.centre-place.ensures _ _ _ _ c.cell-atom.ensures c.cell.ensures c.letter_of-side.ensures c.cell-group.ensures c.put_one.ensures
+pub returns-clause-printed : goal.returns-clause-printed
+returns-clause-printed c = centre_printed c.args.table.now (omega arith) c.args.i _ c.centre-place.ensures _ _ _ _ c.cell-atom.ensures c.cell.ensures c.letter_of-side.ensures c.cell-group.ensures c.put_one.ensures.printed

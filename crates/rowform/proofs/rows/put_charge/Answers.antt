@@ -3,5 +3,5 @@ use native.Mathlib.Omega.{arith}
 use Rattle.rowform.proofs.RowLaws.{charge_printed}
 use Rattle.rowform.proofs.rows.put_charge.Goals as goal
 
-pub returns : goal.returns
-returns c = charge_printed c.args.table.now (omega arith) c.args.i _ c.charge.ensures c.put_signed.ensures c.put_members.ensures
+pub returns-clause-printed : goal.returns-clause-printed
+returns-clause-printed c = charge_printed c.args.table.now (omega arith) c.args.i _ c.charge.ensures c.put_signed.ensures c.put_members.ensures

@@ -2,8 +2,8 @@
 use Rattle.rowform.proofs.LineLaws.{mark_alone, mark_grouped}
 use Rattle.rowform.proofs.rows.put_mark.Goals as goal
 
-pub returns-then-group-eq0 : goal.returns-then-group-eq0
-returns-then-group-eq0 c = mark_alone _ _ c.if-group-eq0.true c.bytes.ensures
+pub returns-then-group-eq0-clause-printed : goal.returns-then-group-eq0-clause-printed
+returns-then-group-eq0-clause-printed c = mark_alone _ _ c.if-group-eq0.true c.bytes.ensures
 
-pub returns-else-group-eq0 : goal.returns-else-group-eq0
-returns-else-group-eq0 c = mark_grouped _ _ c.if-group-eq0.false (rw c.to_le_bytes.ensures at c.bytes-else-group-eq0.ensures)
+pub returns-else-group-eq0-clause-printed : goal.returns-else-group-eq0-clause-printed
+returns-else-group-eq0-clause-printed c = mark_grouped _ _ c.if-group-eq0.false (rw c.to_le_bytes.ensures at c.bytes-else-group-eq0.ensures)

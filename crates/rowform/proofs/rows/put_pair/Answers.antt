@@ -14,5 +14,5 @@ overflow_add-place-2 c = omega (arith, row_small_lem Pairs _ _ c.pair-place.ensu
 pub overflow_add-place-3 : goal.overflow_add-place-3
 overflow_add-place-3 c = omega (arith, row_small_lem Pairs _ _ c.pair-place.ensures)
 
-pub returns : goal.returns
-returns c = pair_printed c.args.table.now (omega arith) c.args.i _ c.pair-place.ensures _ _ _ _ _ c.cell-low.ensures c.cell-high.ensures c.cell.ensures c.letter_of-side.ensures c.cell-group.ensures c.put_two.ensures
+pub returns-clause-printed : goal.returns-clause-printed
+returns-clause-printed c = pair_printed c.args.table.now (omega arith) c.args.i _ c.pair-place.ensures _ _ _ _ _ c.cell-low.ensures c.cell-high.ensures c.cell.ensures c.letter_of-side.ensures c.cell-group.ensures c.put_two.ensures.printed

@@ -3,5 +3,5 @@ use native.Mathlib.Omega.{arith}
 use Rattle.rowform.proofs.RowLaws.{radical_printed}
 use Rattle.rowform.proofs.rows.put_radical.Goals as goal
 
-pub returns : goal.returns
-returns c = radical_printed c.args.table.now (omega arith) c.args.i _ c.radical.ensures _ c.cell.ensures c.number.ensures c.put_members.ensures
+pub returns-clause-printed : goal.returns-clause-printed
+returns-clause-printed c = radical_printed c.args.table.now (omega arith) c.args.i _ c.radical.ensures _ c.cell.ensures c.number.ensures c.put_members.ensures
