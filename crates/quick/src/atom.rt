@@ -2,7 +2,7 @@
 ghost use Rattle.std.specs.Prelude.{IfSome};
 ghost use Rattle.quick.specs.Quick.{AtomIs};
 
-use crate::parts::{number_at, symbol_and_tail};
+use crate::parts::{number_at, symbol_at, tail_at};
 use rows::atom::AtomRow;
 
 // A row's values and the next line's place.
@@ -24,7 +24,8 @@ pub fn quick_atom(block: &[u8], at: usize) -> Option<QuickAtom>
         return None;
     }
     let atom = number_at(block, at)?;
-    let (symbol, tail) = symbol_and_tail(block, atom.to)?;
+    let symbol = symbol_at(block, atom.to)?;
+    let tail = tail_at(block, symbol.to)?;
     let row = AtomRow {
         number: atom.number,
         mark: symbol.mark,

@@ -109,6 +109,28 @@ pub fn end_at(block: &[u8], at: usize) -> Option<usize>
     Some(at + 2)
 }
 
+// A symbol without `^`: "an upper-case letter and at most one lower-case letter".
+pub fn symbol_at(block: &[u8], at: usize) -> Option<SymbolAt>
+    requires { at + 2 ≤ length block.now }
+    ensures { IfSome result (SymbolIs block.now at) }
+{
+    let first = block[at];
+    if !is_upper(first) {
+        return None;
+    }
+    let second = block[at + 1];
+    if is_lower(second) {
+        return Some(SymbolAt {
+            mark: Mark::plain(first, second),
+            to: at + 2,
+        });
+    }
+    Some(SymbolAt {
+        mark: Mark::plain(first, 0),
+        to: at + 1,
+    })
+}
+
 // What stands behind the symbol: "optional hydrogens 0 to 15 (absent means 0)", here one space and one digit, and the line's end.
 pub fn tail_at(block: &[u8], at: usize) -> Option<Tail>
     requires { at + 4 ≤ length block.now }
@@ -121,33 +143,6 @@ pub fn tail_at(block: &[u8], at: usize) -> Option<Tail>
     }
     let next = end_at(block, at)?;
     Some(Tail { hydrogens: 0, next })
-}
-
-// A symbol without `^`, "an upper-case letter and at most one lower-case letter", and what stands behind it. The ways part at the second letter: one place behind both, chosen
-// by what was read, would hold up all that is read from there on.
-pub fn symbol_and_tail(block: &[u8], at: usize) -> Option<(SymbolAt, Tail)>
-    requires { at + 6 ≤ length block.now }
-    ensures { IfSome result (λ p. SymbolIs block.now at p.0 × TailIs block.now p.0.to p.1) }
-{
-    let first = block[at];
-    if !is_upper(first) {
-        return None;
-    }
-    let second = block[at + 1];
-    if is_lower(second) {
-        let behind = tail_at(block, at + 2)?;
-        let symbol = SymbolAt {
-            mark: Mark::plain(first, second),
-            to: at + 2,
-        };
-        return Some((symbol, behind));
-    }
-    let tail = tail_at(block, at + 1)?;
-    let symbol = SymbolAt {
-        mark: Mark::plain(first, 0),
-        to: at + 1,
-    };
-    Some((symbol, tail))
 }
 
 // The digits from `at` on, none or at most six.
