@@ -92,7 +92,9 @@ fn judged_end(p: Progress, at: usize) -> Result<Progress, Refused>
 
 // Judges a block; the scratch lent is all zeros. The store keeps the rows of XYZ, four numbers a row, as far as it has room. What no reading lends, a scratch of another
 // length, no known element or more than there are, is answered Unlent, which no block's refusal is, at place 0, and scratch and store stay as they were. That it is
-// all zeros is not looked at: of one that is not, only the lengths are promised.
+// all zeros is not looked at: of one that is not, only the lengths are promised. Never laid into its caller: in a
+// program, which calls it from one place, what it needs of the stack would else lie under all that is printed.
+#[inline(never)]
 pub fn judge(
     block: &[u8],
     u: Rules,

@@ -7,7 +7,7 @@ use mathlib.Core.List.{List, [], ◌∷◌, ◌++◌, append_assoc, append-nil}
 use native.Mathlib.Nat.{zero-add, add-zero}
 use native.Mathlib.Numerals.{add-one}
 use native.Mathlib.Omega.{arith}
-use lib.ListN.{length, get_or, set, take, drop, take-append-drop}
+use lib.ListN.{length, get_or, set, length-set, take, drop, take-append-drop}
 use lib.Dec.{ltb}
 use lib.Seq.{take-suc, set_out, sets, sets-eq, length-sets, length-take-le, take_all, drop-drop}
 use borrow.Author.Tests.{ltb-true, ltb-false, lt-ltb, le-ltb}
@@ -52,6 +52,12 @@ laid_then {b} {b₁} {b₂} {x} {y} {at} {r₁} {r₂} p q = record {
 
 pub laid_as : {b b' x y : Bytes} {at r : ℕ} → x ≡ y → Laid b at x b' r → Laid b at y b' r
 laid_as {b} {b'} {x} {y} {at} {r} e p = record { place = p.place ∙ ap (after at) e; laid = p.laid ∙ ap (over b at) e }
+
+-- THE BUFFER KEEPS ITS LENGTH
+pub over_length : (b : Bytes) (at : ℕ) (x : Bytes) → length (over b at x) ≡ length b
+unfolding over
+over_length b at [] = refl
+over_length b at (c ∷ x) = over_length (set b at c) (next_place at) x ∙ length-set b at c
 
 -- ON A SHEET
 pub printed_none : {s : Sheet} → Printed s [] s

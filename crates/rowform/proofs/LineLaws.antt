@@ -5,6 +5,7 @@ use mathlib.Core.Path.{◌≡◌, refl, sym, ap, ap₂, ◌∙◌}
 use mathlib.Core.Bool.{Bool, true, false}
 use mathlib.Core.List.{List, [], ◌∷◌, ◌++◌, append_assoc}
 use native.Mathlib.Omega.{arith}
+use lib.ListN.{length}
 use lib.IntN.{ℤ, pos, negsuc, nat_abs}
 use Rattle.lists.proofs.Bools.{torn}
 use Rattle.format.specs.Bytes.{Bytes}
@@ -15,9 +16,16 @@ use Rattle.cells.specs.Signs.{negative}
 use Rattle.format.proofs.PlaceLaws.{atom_place_lem}
 use Rattle.printing.specs.Printing.{Printed, spaced}
 use Rattle.printing.specs.declared.Sheet.{Sheet}
-use Rattle.rowform.specs.Lines.{mark_words, mark_line, atom_no, atom_line}
-use Rattle.printing.proofs.PrintLaws.{printed_then, printed_as, spaced_none, spaced_more}
+use Rattle.rowform.specs.Lines.{mark_words, mark_line, atom_no, atom_line, Lent}
+use Rattle.printing.proofs.PrintLaws.{over_length, printed_then, printed_as, spaced_none, spaced_more}
 use Rattle.printing.proofs.NumberLaws.{digits_single, digits_double, zero_left_out, unless_zero_lem}
+
+-- THE BUFFER THAT WAS LENT: printing keeps it
+pub lent_then : {s s₁ s₂ : Sheet} → Lent s s₁ → Lent s₁ s₂ → Lent s s₂
+lent_then p q = record { lent = q.lent ∙ p.lent; size = q.size ∙ p.size }
+
+pub printed_lent : {s s' : Sheet} {x : Bytes} → Printed s x s' → Lent s s'
+printed_lent {s} {x = x} p = record { lent = p.lent; size = ap length p.print.laid ∙ over_length s.buffer.now s.at x }
 
 -- WORDS BEHIND A WORD, and the line's end
 pub behind_spaced : (ws : List Bytes) → behind ws ≡ spaced ws ++ (10 ∷ [])

@@ -46,6 +46,7 @@ row_no l t i = get_or (rows_of l (decode t)) i (row [] (pos 0) 0)
 abbrev pub RowLaid : ListOf → List ℤ → (i : ℕ) (before later : Sheet) → Type 0
 RowLaid l t i s s' = i < length (rows_of l (decode t)) → (row_no l t i).group < 256 → Printed s (line (row_words l (row_no l t i))) s'
 
--- whatever is printed, and where nothing is promised of it too: the sheet's buffer is still the one that was lent
-abbrev pub Lent : (before later : Sheet) → Type 0
-Lent s s' = s'.buffer.ghost_name ≡ s.buffer.ghost_name
+-- whatever is printed, and where nothing is promised of it too: the sheet's buffer is still the one that was lent, as long as it was
+pub record Lent (before later : Sheet) : Type 0 where
+  pub lent : later.buffer.ghost_name ≡ before.buffer.ghost_name
+  pub size : length later.buffer.now ≡ length before.buffer.now
